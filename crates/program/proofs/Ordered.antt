@@ -1,0 +1,26 @@
+-- When there is a range between two places, and which.
+use Prim.Native.Nat.{ℕ, _≤_, _<_}
+use mathlib.Core.Path.{_≡_, refl, ap}
+use native.Mathlib.Bridge.{le-prop}
+use native.Mathlib.Decide.{decLe}
+use native.Mathlib.Omega.{arith}
+use Rattle.std.specs.declared.option.Option.the-variants.{Some, None}
+use Rattle.numbers.specs.declared.place.Place.{Place}
+use Rattle.program.specs.declared.range.PlaceRange.{PlaceRange}
+use Rattle.program.specs.Ranges.{ifOrdered, rangeOf}
+
+pub range-some : (r : PlaceRange) → rangeOf (r .first) (r .last) ≡ Some r
+unfolding rangeOf
+range-some r = go (decLe (r .first .0) (r .last .0))
+  where
+    go : (d : Dec (r .first .0 ≤ r .last .0)) → ifOrdered (r .first) (r .last) d ≡ Some r
+    go (yes p) = ap (λ (q : r .first .0 ≤ r .last .0). Some (record { first = r .first; last = r .last; ordered = q })) (le-prop p (r .ordered))
+    go (no n) = absurd (n (r .ordered))
+
+pub range-none : (first last : Place) → last .0 < first .0 → rangeOf first last ≡ None
+unfolding rangeOf
+range-none first last h = go (decLe (first .0) (last .0))
+  where
+    go : (d : Dec (first .0 ≤ last .0)) → ifOrdered first last d ≡ None
+    go (yes p) = absurd (omega arith)
+    go (no n) = refl

@@ -1,0 +1,4 @@
+pub mod Faults
+pub mod Headers
+pub mod Layout
+pub mod Ranges
