@@ -24,3 +24,12 @@ range-none first last h = go (decLe (first .0) (last .0))
     go : (d : Dec (first .0 ≤ last .0)) → ifOrdered first last d ≡ None
     go (yes p) = absurd (omega arith)
     go (no n) = refl
+
+-- the ends of the range between two places are these places
+pub range-of : (first last : Place) (r : PlaceRange) → rangeOf first last ≡ Some r → (r .first ≡ first) × (r .last ≡ last)
+unfolding rangeOf
+range-of first last r = go (decLe (first .0) (last .0))
+  where
+    go : (d : Dec (first .0 ≤ last .0)) → ifOrdered first last d ≡ Some r → (r .first ≡ first) × (r .last ≡ last)
+    go (yes p) e = (cc, cc)
+    go (no n) e = absurd (let z : _≡_ {A = ℕ} 0 1 = cc in omega arith)

@@ -34,17 +34,27 @@ operatorBits w = w / 2 ^ 18 % 4
 abbrev pub strayBits : ℕ → ℕ
 strayBits w = w / 2 ^ 21
 
+abbrev pub fieldsOf : ℕ → Header
+fieldsOf w = record {
+  first = record { 0 = w % 256 };
+  last = record { 0 = w / 2 ^ 8 % 256 };
+  mode = modeOf (modeBits w) (operatorBits w);
+  single = eqb (w / 2 ^ 20 % 2) 1;
+}
+
 -- reading: check 3, then check 4 (only MP and SYNC, numbered from 2, have an operator)
 abbrev pub readHeader : ℕ → Result Header WordsFault
 readHeader w =
     cond (ltb 0 (strayBits w)) (Err (StrayBit (21 + trailingZeros 32 (strayBits w))))
     (cond (ltb (modeBits w) 2 && ltb 0 (operatorBits w)) (Err OperatorBits)
-    (Ok (record {
-      first = record { 0 = w % 256 };
-      last = record { 0 = w / 2 ^ 8 % 256 };
-      mode = modeOf (modeBits w) (operatorBits w);
-      single = eqb (w / 2 ^ 20 % 2) 1;
-    })))
+    (Ok (fieldsOf w)))
+
+-- b is the lowest bit from 21 on that is set in w
+pub record LowestStray (w b : ℕ) : Type 0 where
+  pub from : 21 ≤ b
+  pub to : b ≤ 31
+  pub set : w / 2 ^ b % 2 ≡ 1
+  pub none-below : w % 2 ^ b / 2 ^ 21 ≡ 0
 
 abbrev pub choiceNumber : Choice → ℕ
 choiceNumber choice.And = 0
@@ -68,3 +78,7 @@ operatorNumber (Sync o) = choiceNumber o
 abbrev pub writeHeader : Header → ℕ
 writeHeader h =
     h .first .0 + h .last .0 * 2 ^ 8 + modeNumber (h .mode) * 2 ^ 16 + operatorNumber (h .mode) * 2 ^ 18 + boolByte (h .single) * 2 ^ 20
+
+-- the word w is read as h
+pub record ReadAs (w : ℕ) (h : Header) : Type 0 where
+  pub reads : readHeader w ≡ Ok h

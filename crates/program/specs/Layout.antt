@@ -2,6 +2,7 @@
 use Prim.Native.Nat.{ℕ}
 use lib.Dec.{eqb}
 use mathlib.Core.Bool.{Bool, true, false, cond, not, _&&_}
+use mathlib.Core.Path.{_≡_}
 use Rattle.std.specs.Options.{isSome, valueOr}
 use Rattle.std.specs.declared.option.Option.{Option}
 use Rattle.std.specs.declared.option.Option.the-variants.{Some, None}
@@ -54,3 +55,7 @@ headerOf (Single s) = record { first = s .place; last = s .place; mode = modeOf 
 abbrev pub writeProgram : Program → Words
 writeProgram (Block b) = record { first = writeHeader (headerOf (Block b)); second = b .cell .0; third = 0 }
 writeProgram (Single s) = record { first = writeHeader (headerOf (Single s)); second = s .cell .0; third = valueOr (sent (s .action)) 0 }
+
+-- the words w are read as p
+pub record ReadsAs (w : Words) (p : Program) : Type 0 where
+  pub reads : readProgram w ≡ Ok p

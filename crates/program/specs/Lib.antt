@@ -1,4 +1,6 @@
+pub mod Cuts
 pub mod Faults
 pub mod Headers
 pub mod Layout
+pub mod Pieces
 pub mod Ranges

@@ -2,8 +2,11 @@ use crate::fault::WordsFault;
 use numbers::place::Place;
 use operators::choice::Choice;
 use operators::mode::Mode;
+ghost use Prim.Native.Nat.{ℕ};
 ghost use mathlib.Core.Path.{_≡_};
-ghost use Rattle.program.specs.Headers.{readHeader, writeHeader, modeOf, modeNumber, operatorOf, operatorNumber};
+ghost use Rattle.std.specs.declared.result.Result.the-variants.{Ok, Err};
+ghost use Rattle.program.specs.Headers.{readHeader, writeHeader, modeOf, modeNumber, operatorOf, operatorNumber, LowestStray, ReadAs};
+ghost use Rattle.program.specs.declared.fault.WordsFault.the-variants.{StrayBit};
 
 // What the first word says, its fields taken apart.
 #[derive(Clone, Copy)]
@@ -59,7 +62,9 @@ fn operator_number(mode: Mode) -> u32
 impl Header {
     // Takes a first word apart, or refuses it: 3 before 4.
     pub fn read(word: u32) -> Result<Header, WordsFault>
-        ensures { λ r. ⌜ r ≡ readHeader word ⌝ }
+        ensures value { λ r. ⌜ r ≡ readHeader word ⌝ }
+        ensures back { λ r. ⌜ ((h : Header) → r ≡ Ok h → writeHeader h ≡ word) ⌝ }
+        ensures lowest { λ r. ⌜ ((bit : ℕ) → r ≡ Err (StrayBit bit) → LowestStray word bit) ⌝ }
     {
         let stray = word >> 21;
         if stray > 0 {
@@ -80,7 +85,8 @@ impl Header {
 
     // The first word that says this.
     pub fn write(&self) -> u32
-        ensures { λ r. ⌜ r ≡ writeHeader (now (self .entry)) ⌝ }
+        ensures value { λ r. ⌜ r ≡ writeHeader (now (self .entry)) ⌝ }
+        ensures again { λ r. ⌜ ReadAs r (now (self .entry)) ⌝ }
     {
         u32::from(self.first.0)
             + (u32::from(self.last.0) << 8)

@@ -9,7 +9,8 @@ use numbers::cell::Cell;
 use operators::action::Action;
 use operators::mode::Mode;
 ghost use mathlib.Core.Path.{_≡_};
-ghost use Rattle.program.specs.Layout.{readProgram, readSingle, readBlock, writeProgram};
+ghost use Rattle.std.specs.declared.result.Result.the-variants.{Ok};
+ghost use Rattle.program.specs.Layout.{readProgram, readSingle, readBlock, headerOf, writeProgram, ReadsAs};
 
 // The three words of a program.
 #[derive(Clone, Copy)]
@@ -52,7 +53,8 @@ fn read_block(header: Header, range: PlaceRange, words: Words) -> Result<Program
 impl Program {
     // Reads three words as a program, or refuses them by the first check that fails.
     pub fn read(words: Words) -> Result<Program, ProgramFault>
-        ensures { λ r. ⌜ r ≡ readProgram words ⌝ }
+        ensures value { λ r. ⌜ r ≡ readProgram words ⌝ }
+        ensures back { λ r. ⌜ ((p : Program) → r ≡ Ok p → writeProgram p ≡ words) ⌝ }
     {
         let header = Header::read(words.first)?;
         let Some(range) = PlaceRange::checked(header.first, header.last) else {
@@ -65,37 +67,43 @@ impl Program {
         }
     }
 
-    // The three words of this program.
-    pub fn write(&self) -> Words
-        ensures { λ r. ⌜ r ≡ writeProgram (now (self .entry)) ⌝ }
+    // What the first word of this program says.
+    fn header(&self) -> Header
+        ensures { λ r. ⌜ r ≡ headerOf (now (self .entry)) ⌝ }
     {
         match *self {
-            Program::Block(block) => {
-                let header = Header {
-                    first: block.range.first(),
-                    last: block.range.last(),
-                    mode: block.mode,
-                    single: false,
-                };
-                Words {
-                    first: header.write(),
-                    second: block.cell.0,
-                    third: 0,
-                }
-            }
-            Program::Single(single) => {
-                let header = Header {
-                    first: single.place,
-                    last: single.place,
-                    mode: single.action.mode(),
-                    single: true,
-                };
-                Words {
-                    first: header.write(),
-                    second: single.cell.0,
-                    third: single.action.word().unwrap_or(0),
-                }
-            }
+            Program::Block(block) => Header {
+                first: block.range.first(),
+                last: block.range.last(),
+                mode: block.mode,
+                single: false,
+            },
+            Program::Single(single) => Header {
+                first: single.place,
+                last: single.place,
+                mode: single.action.mode(),
+                single: true,
+            },
+        }
+    }
+
+    // The three words of this program.
+    pub fn write(&self) -> Words
+        ensures value { λ r. ⌜ r ≡ writeProgram (now (self .entry)) ⌝ }
+        ensures again { λ r. ⌜ ReadsAs r (now (self .entry)) ⌝ }
+    {
+        let first = self.header().write();
+        match *self {
+            Program::Block(block) => Words {
+                first,
+                second: block.cell.0,
+                third: 0,
+            },
+            Program::Single(single) => Words {
+                first,
+                second: single.cell.0,
+                third: single.action.word().unwrap_or(0),
+            },
         }
     }
 }

@@ -3,4 +3,5 @@ pub mod fault;
 pub mod header;
 pub mod kind;
 pub mod layout;
+pub mod pieces;
 pub mod range;

@@ -1,3 +1,4 @@
+pub mod cutting;
 pub mod making;
 
 use numbers::place::Place;

@@ -1,6 +1,7 @@
 use crate::range::PlaceRange;
 use numbers::place::Place;
 ghost use mathlib.Core.Path.{_≡_};
+ghost use Rattle.program.specs.Pieces.{fromTo, span};
 ghost use Rattle.program.specs.Ranges.{rangeOf};
 
 impl PlaceRange {
@@ -12,6 +13,16 @@ impl PlaceRange {
             Some(PlaceRange { first, last })
         } else {
             None
+        }
+    }
+
+    // The range of one place alone.
+    pub fn only(place: Place) -> PlaceRange
+        ensures { λ r. ⌜ span r ≡ fromTo (place .0) (place .0) ⌝ }
+    {
+        PlaceRange {
+            first: place,
+            last: place,
         }
     }
 
