@@ -6,6 +6,7 @@ ghost use Rattle.numbers.specs.Refusals.{layerName};
 pub enum Layer {
     Words,
     Program,
+    Memory,
 }
 
 impl Layer {
@@ -15,6 +16,7 @@ impl Layer {
         match self {
             Layer::Words => "words",
             Layer::Program => "program",
+            Layer::Memory => "memory",
         }
     }
 }

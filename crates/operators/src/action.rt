@@ -1,9 +1,11 @@
 use crate::choice::Choice;
 use crate::choice::ChoiceDebug;
 use crate::choice::ChoicePartialEq;
+use crate::choice::ChoiceOperator;
 use crate::mode::Mode;
+use crate::operator::Operator;
 ghost use mathlib.Core.Path.{_≡_};
-ghost use Rattle.operators.specs.Modes.{modeOf, sent, sending};
+ghost use Rattle.operators.specs.Modes.{modeOf, sent, sending, wantsReply, wordAfter};
 
 // A mode together with the word that it sends: LOAD sends none.
 #[derive(Clone, Copy, PartialEq, Eq, Debug)]
@@ -47,6 +49,30 @@ impl Action {
             Action::Store(word) => Some(word),
             Action::Mp(_, word) => Some(word),
             Action::Sync(_, word) => Some(word),
+        }
+    }
+
+    // LOAD and MP want a reply.
+    pub fn wants_reply(self) -> bool
+        ensures { λ r. ⌜ r ≡ wantsReply self ⌝ }
+    {
+        match self {
+            Action::Load => true,
+            Action::Store(_) => false,
+            Action::Mp(_, _) => true,
+            Action::Sync(_, _) => false,
+        }
+    }
+
+    // The word that a cell holds after the action, where it held this one before.
+    pub fn word_after(self, before: u32) -> u32
+        ensures { λ r. ⌜ r ≡ wordAfter self before ⌝ }
+    {
+        match self {
+            Action::Load => before,
+            Action::Store(word) => word,
+            Action::Mp(operator, word) => operator.join(before, word),
+            Action::Sync(operator, word) => operator.join(before, word),
         }
     }
 }

@@ -1,0 +1,4 @@
+pub mod Effects
+pub mod Faults
+pub mod Flats
+pub mod Views

@@ -1,0 +1,5 @@
+// The hall memory: one interface, two memories, and two layers that are memories again.
+pub mod fault;
+pub mod flat;
+pub mod interface;
+pub mod request;
