@@ -1,3 +1,4 @@
+pub mod Catalogues
 pub mod Effects
 pub mod Faults
 pub mod Flats

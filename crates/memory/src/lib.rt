@@ -1,4 +1,5 @@
 // The hall memory: one interface, two memories, and two layers that are memories again.
+pub mod catalogue;
 pub mod fault;
 pub mod flat;
 pub mod interface;
