@@ -1,5 +1,5 @@
 -- The catalogue memory, by its entries, its replies in transit and its wait.
-use Prim.Native.Nat.{ℕ, suc, _≤_, _<_}
+use Prim.Native.Nat.{ℕ, suc, _-_, _≤_, _<_}
 use lib.Dec.{leb, ltb, eqb}
 use lib.ListN.{length, getD, set}
 use mathlib.Core.Bool.{Bool, cond, _&&_, _||_}
@@ -20,6 +20,8 @@ use Rattle.memory.specs.declared.catalogue.Catalogue.{Catalogue}
 use Rattle.memory.specs.declared.catalogue.Entry.{Entry}
 use Rattle.memory.specs.declared.fault.MemoryFault.{MemoryFault}
 use Rattle.memory.specs.declared.fault.MemoryFault.the-variants.{Size, NotRising, TransitFull}
+use Rattle.memory.specs.declared.request.Taken.{Taken}
+use Rattle.memory.specs.declared.request.Taken.the-variants.{Nothing, NotYet, Reply}
 
 abbrev pub cellOf : Entry → ℕ
 cellOf e = e .cell .0
@@ -66,13 +68,19 @@ abbrev pub catalogueCheck : List Entry → Result (Unit {0}) MemoryFault
 catalogueCheck es = cond (ltb (length es) 1 || ltb 256 (length es)) (Err Size) (risingCheck es)
 
 -- exactly the listed cells are fitted
-abbrev pub catalogueView : List Entry → List (Option ℕ) → ℕ → View
-catalogueView es transit wait = record { cell = entryWord es; transit = transit; wait = wait }
+abbrev pub viewOf : Catalogue → View
+viewOf m = record { cell = entryWord (vec-items (m .entries)); transit = items (m .transit); wait = m .wait }
 
 -- the wait of a reply that becomes the first one; 0 where none is left
 abbrev pub waitFor : List (Option ℕ) → ℕ
 waitFor [] = 0
 waitFor (_ ∷ _) = 3
+
+-- the wait after a take, given what is then left in transit
+abbrev pub waitLeft : Taken → ℕ → List (Option ℕ) → ℕ
+waitLeft Nothing wait transit = wait
+waitLeft NotYet wait transit = wait - 1
+waitLeft (Reply word) wait transit = waitFor transit
 
 -- the answer, the transit and the wait after an action's reply, if it wants one
 abbrev pub roomFor : Action → List (Option ℕ) → Result (Unit {0}) MemoryFault

@@ -9,7 +9,8 @@ ghost use Prim.Native.Nat.{_<_};
 ghost use lib.ListN.{length, getD, set};
 ghost use mathlib.Core.List.{List, []};
 ghost use mathlib.Core.Path.{_≡_};
-ghost use Rattle.memory.specs.Catalogues.{catalogueCheck, risingCheck, catalogueView, entryIndex, acted, Found, roomFor, withReply, waitWith, CatalogueSound};
+ghost use Rattle.memory.specs.Catalogues.{catalogueCheck, risingCheck, viewOf, waitLeft, entryIndex, acted, Found, roomFor, withReply, waitWith, CatalogueSound};
+ghost use Rattle.memory.specs.Effects.{Sends, Takes};
 ghost use Rattle.queue.specs.Queues.{items};
 ghost use Rattle.std.specs.Of.Vec.{vec-items};
 ghost use Rattle.std.specs.declared.result.Result.the-variants.{Ok};
@@ -118,11 +119,16 @@ impl Catalogue {
 }
 
 pub impl HallMemory for Catalogue as CatalogueMemory {
-    ghost view = { λ m. catalogueView (vec-items (m .entries)) (items (m .transit)) (m .wait) };
+    ghost view = { viewOf };
 
     ghost sound = { CatalogueSound };
 
-    fn send(&mut self, request: Request) -> Result<(), MemoryFault> {
+    fn send(&mut self, request: Request) -> Result<(), MemoryFault>
+        requires { ⌜ CatalogueSound (now self) ⌝ }
+        ensures sound { λ _. ⌜ CatalogueSound (now (self .exit)) ⌝ }
+        ensures sends { λ r. ⌜ Sends request r (viewOf (now (self .entry))) (viewOf (now (self .exit))) ⌝ }
+        ensures wait { λ _. ⌜ now (self .exit) .wait ≡ waitWith (request .action) (items (now (self .entry) .transit)) (now (self .entry) .wait) ⌝ }
+    {
         match find(self.entries.as_slice(), request.cell) {
             None => self.reply(request.action, None),
             Some(i) => {
@@ -134,7 +140,12 @@ pub impl HallMemory for Catalogue as CatalogueMemory {
         }
     }
 
-    fn take(&mut self) -> Taken {
+    fn take(&mut self) -> Taken
+        requires { ⌜ CatalogueSound (now self) ⌝ }
+        ensures sound { λ _. ⌜ CatalogueSound (now (self .exit)) ⌝ }
+        ensures takes { λ r. ⌜ Takes r (viewOf (now (self .entry))) (viewOf (now (self .exit))) ⌝ }
+        ensures wait { λ r. ⌜ now (self .exit) .wait ≡ waitLeft r (now (self .entry) .wait) (items (now (self .exit) .transit)) ⌝ }
+    {
         if self.wait > 0 {
             self.wait -= 1;
             return Taken::NotYet;

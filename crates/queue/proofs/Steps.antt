@@ -22,6 +22,10 @@ sound-within c slots size are head len =
       len-is = simp (length-take, length-drop, length-append) (omega arith);
     }
 
+pub held-none : {T : Type 0} (c : Cursor) (slots : List T) → c .len ≡ 0 → held c slots ≡ []
+unfolding held
+held-none c slots none = rw none
+
 -- the slot of the i-th element
 pub held-at : {T : Type 0} (c : Cursor) (slots : List T) (size : ℕ) → SoundLine c slots size → (i : ℕ) (d : T) → i < c .len → getD (held c slots) i d ≡ getD slots (slotOf (c .head) i size) d
 unfolding held

@@ -3,8 +3,8 @@ ghost use lib.Dec.{eqb, ltb};
 ghost use lib.ListN.{length, drop, set};
 ghost use mathlib.Core.List.{[]};
 ghost use mathlib.Core.Path.{_≡_};
-ghost use Rattle.queue.specs.Held.{pushed};
 ghost use Rattle.std.specs.shelf.Maps.{nth};
+ghost use Rattle.queue.specs.Held.{pushed};
 ghost use Rattle.queue.specs.Queues.{items, Sound};
 
 // A line of at most N elements, first in first out. It copies elements in and out, and reads no slot that is not in use.
