@@ -3,13 +3,15 @@ use crate::interface::HallMemory;
 use crate::request::Request;
 use crate::request::Taken;
 use numbers::cell::Cell;
+use numbers::rising::Keyed;
+use numbers::rising::first_not_rising;
 use operators::action::Action;
 use queue::line::Queue;
 ghost use Prim.Native.Nat.{_<_};
 ghost use lib.ListN.{length, getD, set};
 ghost use mathlib.Core.List.{List, []};
 ghost use mathlib.Core.Path.{_≡_};
-ghost use Rattle.memory.specs.Catalogues.{catalogueCheck, risingCheck, viewOf, waitLeft, entryIndex, acted, Found, roomFor, withReply, waitWith, CatalogueSound};
+ghost use Rattle.memory.specs.Catalogues.{cellOf, catalogueCheck, viewOf, waitLeft, entryIndex, acted, Found, roomFor, withReply, waitWith, CatalogueSound};
 ghost use Rattle.memory.specs.Effects.{Sends, Takes};
 ghost use Rattle.queue.specs.Queues.{items};
 ghost use Rattle.std.specs.Of.Vec.{vec-items};
@@ -30,16 +32,12 @@ pub struct Catalogue {
     wait: u8,
 }
 
-fn check_rising(entries: &[Entry]) -> Result<(), MemoryFault>
-    requires { ⌜ length (now entries) < 257 ⌝ }
-    ensures { λ r. ⌜ r ≡ risingCheck (now (entries .entry)) ⌝ }
-{
-    for i in 1..entries.len() {
-        if entries[i].cell.0 <= entries[i - 1].cell.0 {
-            return Err(MemoryFault::NotRising(i as u32));
-        }
+pub impl Keyed for Entry as EntryKeyed {
+    ghost rank = { cellOf };
+
+    fn key(&self) -> u32 {
+        self.cell.0
     }
-    Ok(())
 }
 
 fn find(entries: &[Entry], cell: Cell) -> Option<usize>
@@ -62,7 +60,10 @@ impl Catalogue {
         if entries.len() < 1 || entries.len() > 256 {
             return Err(MemoryFault::Size);
         }
-        check_rising(entries.as_slice())
+        match first_not_rising(entries.as_slice()) {
+            Some(index) => Err(MemoryFault::NotRising(index as u32)),
+            None => Ok(()),
+        }
     }
 
     // The memory of these entries, with nothing in transit. The check was passed before.

@@ -1,55 +1,44 @@
 -- What a loop knows that compares each key with the one before.
-use Prim.Native.Nat.{ℕ, zero, suc, _+_, _-_, _<_, _≤_}
-use lib.Dec.{ltb}
+use Prim.Native.Nat.{ℕ, zero, suc, _+_, _<_, _≤_}
 use lib.ListN.{length, getD, drop, set}
 use lib.Seq.{drop-cons}
 use mathlib.Core.Bool.{true, false, cond}
 use mathlib.Core.List.{List, [], _∷_}
 use mathlib.Core.Path.{_≡_, refl, sym, ap, _∙_}
 use native.Mathlib.Numerals.{add-one}
-use native.Mathlib.Omega.{arith}
-use borrow.Author.Tests.{lt-ltb, le-ltb}
 use Rattle.std.proofs.shelf.Lists.{drop-all}
 use Rattle.std.proofs.shelf.Tests.{cond-true, cond-false}
 use Rattle.std.specs.declared.option.Option.{Option}
 use Rattle.std.specs.declared.option.Option.the-variants.{Some, None}
-use Rattle.numbers.specs.Rising.{notRisingFrom, notRising}
+use Rattle.numbers.specs.Rising.{above, notRisingFrom, notRising}
 
-module _ {X : Type 0} (key : X → ℕ) (absent : X) where
-  -- the keys below the index i rise
-  abbrev pub RisesTo : List X → ℕ → Type 0
-  RisesTo xs i = notRising key xs ≡ notRisingFrom key i (key (getD xs (i - 1) absent)) (drop i xs)
+module _ {X : Type 0} (key : X → ℕ) where
+  -- the keys below the index i rise, and `before` is the last of them
+  abbrev pub RisesTo : List X → ℕ → Option ℕ → Type 0
+  RisesTo xs i before = notRising key xs ≡ notRisingFrom key i before (drop i xs)
 
-  pub rises-none : (xs : List X) → RisesTo xs 1
-  rises-none [] = refl
-  rises-none (x ∷ xs) = refl
+  -- at an index within, what is left begins with the element there, whose key is k
+  opened : (xs : List X) (i : ℕ) (before : Option ℕ) (x : X) (k : ℕ) → i < length xs → x ≡ getD xs i x → k ≡ key x → RisesTo xs i before
+    → notRising key xs ≡ cond (above before k) (notRisingFrom key (i + 1) (Some k) (drop (i + 1) xs)) (Some i)
+  opened xs i before x k within read keyed rises =
+      rises ∙ ap (notRisingFrom key i before) (drop-cons xs i x within ∙ ap (λ (y : X). y ∷ drop (suc i) xs) (sym read) ∙ ap (λ (n : ℕ). x ∷ drop n xs) (sym (add-one i)))
+        ∙ ap (λ (n : ℕ). cond (above before n) (notRisingFrom key (i + 1) (Some n) (drop (i + 1) xs)) (Some i)) (sym keyed)
 
-  -- at an index within, what is left begins with the element there
-  opened : (xs : List X) (i : ℕ) → i < length xs → RisesTo xs i
-    → notRising key xs ≡ cond (ltb (key (getD xs (i - 1) absent)) (key (getD xs i absent))) (notRisingFrom key (i + 1) (key (getD xs i absent)) (drop (i + 1) xs)) (Some i)
-  opened xs i within rises =
-      rises ∙ ap (notRisingFrom key i (key (getD xs (i - 1) absent))) (drop-cons xs i absent within ∙ ap (λ (n : ℕ). getD xs i absent ∷ drop n xs) (sym (add-one i)))
+  pub rises-more : (xs : List X) (i : ℕ) (before : Option ℕ) (x : X) (k : ℕ) → i < length xs → x ≡ getD xs i x → k ≡ key x → RisesTo xs i before → true ≡ above before k → RisesTo xs (i + 1) (Some k)
+  rises-more xs i before x k within read keyed rises up = opened xs i before x k within read keyed rises ∙ cond-true _ _ _ (sym up)
 
-  pub rises-more : (xs : List X) (i : ℕ) → i < length xs → RisesTo xs i → key (getD xs (i - 1) absent) < key (getD xs i absent) → RisesTo xs (i + 1)
-  rises-more xs i within rises above =
-      let here : i + 1 - 1 ≡ i = omega arith in
-      opened xs i within rises ∙ cond-true _ _ _ (lt-ltb _ _ above)
-        ∙ ap (λ (n : ℕ). notRisingFrom key (i + 1) (key (getD xs n absent)) (drop (i + 1) xs)) (sym here)
+  pub rises-stop : (xs : List X) (i : ℕ) (before : Option ℕ) (x : X) (k : ℕ) → i < length xs → x ≡ getD xs i x → k ≡ key x → RisesTo xs i before → false ≡ above before k → notRising key xs ≡ Some i
+  rises-stop xs i before x k within read keyed rises down = opened xs i before x k within read keyed rises ∙ cond-false _ _ _ (sym down)
 
-  pub rises-stop : (xs : List X) (i : ℕ) → i < length xs → RisesTo xs i → key (getD xs i absent) ≤ key (getD xs (i - 1) absent) → notRising key xs ≡ Some i
-  rises-stop xs i within rises below = opened xs i within rises ∙ cond-false _ _ _ (le-ltb _ _ below)
-
-  pub rises-all : (xs : List X) (i : ℕ) → length xs ≤ i → RisesTo xs i → notRising key xs ≡ None
-  rises-all xs i end rises = rises ∙ ap (notRisingFrom key i (key (getD xs (i - 1) absent))) (drop-all i xs end)
+  pub rises-all : (xs : List X) (i : ℕ) (before : Option ℕ) → length xs ≤ i → RisesTo xs i before → notRising key xs ≡ None
+  rises-all xs i before end rises = rises ∙ ap (notRisingFrom key i before) (drop-all i xs end)
 
   -- an element may be changed for another of the same key
-  same-key-from : (n b : ℕ) (xs : List X) (i : ℕ) (y : X) → key y ≡ key (getD xs i absent) → notRisingFrom key n b (set xs i y) ≡ notRisingFrom key n b xs
-  same-key-from n b [] i y same = refl
-  same-key-from n b (x ∷ xs) zero y same = ap (λ (k : ℕ). cond (ltb b k) (notRisingFrom key (n + 1) k xs) (Some n)) same
-  same-key-from n b (x ∷ xs) (suc i) y same =
-      ap (λ (o : Option ℕ). cond (ltb b (key x)) o (Some n)) (same-key-from (n + 1) (key x) xs i y same)
+  same-key-from : (n : ℕ) (before : Option ℕ) (xs : List X) (i : ℕ) (d y : X) → key y ≡ key (getD xs i d) → notRisingFrom key n before (set xs i y) ≡ notRisingFrom key n before xs
+  same-key-from n before [] i d y same = refl
+  same-key-from n before (x ∷ xs) zero d y same = ap (λ (k : ℕ). cond (above before k) (notRisingFrom key (n + 1) (Some k) xs) (Some n)) same
+  same-key-from n before (x ∷ xs) (suc i) d y same =
+      ap (λ (o : Option ℕ). cond (above before (key x)) o (Some n)) (same-key-from (n + 1) (Some (key x)) xs i d y same)
 
-  pub same-key : (xs : List X) (i : ℕ) (y : X) → key y ≡ key (getD xs i absent) → notRising key (set xs i y) ≡ notRising key xs
-  same-key [] i y same = refl
-  same-key (x ∷ xs) zero y same = ap (λ (k : ℕ). notRisingFrom key 1 k xs) same
-  same-key (x ∷ xs) (suc i) y same = same-key-from 1 (key x) xs i y same
+  pub same-key : (xs : List X) (i : ℕ) (d y : X) → key y ≡ key (getD xs i d) → notRising key (set xs i y) ≡ notRising key xs
+  same-key xs i d y same = same-key-from 0 None xs i d y same

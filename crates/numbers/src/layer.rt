@@ -6,6 +6,8 @@ ghost use Rattle.numbers.specs.Refusals.{layerName};
 pub enum Layer {
     Words,
     Program,
+    Sheet,
+    Channel,
     Memory,
 }
 
@@ -16,6 +18,8 @@ impl Layer {
         match self {
             Layer::Words => "words",
             Layer::Program => "program",
+            Layer::Sheet => "sheet",
+            Layer::Channel => "channel",
             Layer::Memory => "memory",
         }
     }

@@ -5,3 +5,4 @@ pub mod channel;
 pub mod layer;
 pub mod place;
 pub mod refusal;
+pub mod rising;

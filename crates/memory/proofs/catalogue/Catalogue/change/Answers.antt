@@ -18,7 +18,7 @@ returns c =
     let read : entry ≡ getD es i absent = getD-read es i entry (c .pre .within) (c .index-entry .ensures) absent in
     let changed = ap (withWord entry) (c .word-after .ensures) ∙ ap (λ (e : Entry). withWord e (wordAfter (c .args .action) (e .word))) read in
     record {
-      sound = record { rising = same-key cellOf absent es i _ (ap cellOf read) ∙ c .pre .sound .rising; transit = c .pre .sound .transit; wait = c .pre .sound .wait };
+      sound = record { rising = same-key cellOf es i absent _ (ap cellOf read) ∙ c .pre .sound .rising; transit = c .pre .sound .transit; wait = c .pre .sound .wait };
       entries = ap (set es i) changed;
       rest = search needs;
     }
