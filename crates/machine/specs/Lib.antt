@@ -1,0 +1,7 @@
+pub mod Calls
+pub mod Faults
+pub mod Histories
+pub mod Laws
+pub mod Means
+pub mod Steps
+pub mod Turns
