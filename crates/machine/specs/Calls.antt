@@ -62,6 +62,9 @@ checkReserved r then = cond (r .flags .reserved) then (Some fault.Unreserved)
 abbrev pub checkResting : Record → Refused → Refused
 checkResting r then = cond (r .flags .running) (Some fault.Running) then
 
+abbrev pub checkRunning : Record → Refused → Refused
+checkRunning r then = cond (r .flags .running) then (Some fault.NotRunning)
+
 -- reserve gives the lowest free channel, empties its window and clears its record
 abbrev pub lowestFree : List Record → Option ℕ
 lowestFree [] = None
@@ -152,7 +155,7 @@ startState m c w = elim (readProgram w) [ Ok p ↦ startProgram m c (stored p) |
 
 -- stop marks a running channel
 abbrev pub stopRefused : Mean → ℕ → Refused
-stopRefused m c = checkChannel c (checkReserved (recordOf m c) (cond (recordOf m c .flags .running) None (Some fault.NotRunning)))
+stopRefused m c = checkChannel c (checkReserved (recordOf m c) (checkRunning (recordOf m c) None))
 
 abbrev pub stopState : Mean → ℕ → Mean
 stopState m c = withRecord m c (withFlags (recordOf m c) (record { reserved = recordOf m c .flags .reserved; running = recordOf m c .flags .running; error = recordOf m c .flags .error; stop = true }))

@@ -1,0 +1,4 @@
+// The mover: sixteen channels with their windows, over any hall memory.
+mod checks;
+pub mod mover;
+mod records;

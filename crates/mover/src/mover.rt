@@ -1,0 +1,10 @@
+pub mod calls;
+
+use machine::state::State;
+
+// The mover over a hall memory that nobody else uses.
+#[derive(Drop)]
+pub struct Mover<M> {
+    memory: M,
+    state: State,
+}

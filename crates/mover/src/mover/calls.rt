@@ -1,0 +1,104 @@
+use crate::checks::known_channel;
+use crate::checks::known_place;
+use crate::checks::reserved;
+use crate::checks::resting;
+use crate::checks::running;
+use crate::mover::Mover;
+use crate::records::clear;
+use machine::fault::ChannelFault;
+use memory::interface::HallMemory;
+use machine::fault::SheetIntoChannel;
+use sheet::layout;
+use sheet::layout::check;
+ghost use mathlib.Core.Path.{_≡_};
+ghost use Rattle.machine.specs.Calls.{answered, unlessRefused, putRefused, putState, lookAnswer, stopRefused, stopState, releaseRefused, releaseState, fillRefused, fillState};
+ghost use Rattle.machine.specs.Means.{withQuiet};
+ghost use mathlib.Core.Bool.{true, false};
+ghost use Rattle.mover.specs.Meaning.{mean, MoverSound};
+
+impl<M: HallMemory> Mover<M> {
+    // Tells one place.
+    pub fn look(&self, channel: u32, place: u32) -> Result<u32, ChannelFault>
+        requires { ⌜ MoverSound M·HallMemory (now self) ⌝ }
+        ensures { λ r. ⌜ r ≡ lookAnswer (mean (now (self .entry))) channel place ⌝ }
+    {
+        let channel = known_channel(channel)?;
+        let place = known_place(place)?;
+        let record = &self.state.records[channel.0 as usize];
+        reserved(record)?;
+        match record.window[place.0 as usize] {
+            Some(word) => Ok(word),
+            None => Err(ChannelFault::Empty(u32::from(place.0))),
+        }
+    }
+
+    // Writes one place.
+    pub fn put(&mut self, channel: u32, place: u32, word: u32) -> Result<(), ChannelFault>
+        requires { ⌜ MoverSound M·HallMemory (now self) ⌝ }
+        ensures answer { λ r. ⌜ r ≡ answered (putRefused (mean (now (self .entry))) channel place) tt ⌝ }
+        ensures state { λ _. ⌜ mean (now (self .exit)) ≡ unlessRefused (putRefused (mean (now (self .entry))) channel place) (mean (now (self .entry))) (putState (mean (now (self .entry))) channel place word) ⌝ }
+        ensures memory { λ _. ⌜ now (self .exit) .memory ≡ now (self .entry) .memory ⌝ }
+    {
+        let channel = known_channel(channel)?;
+        let place = known_place(place)?;
+        resting(&self.state.records[channel.0 as usize])?;
+        self.state.records[channel.0 as usize].window[place.0 as usize] = Some(word);
+        Ok(())
+    }
+
+    // Marks a running channel; a second stop adds nothing.
+    pub fn stop(&mut self, channel: u32) -> Result<(), ChannelFault>
+        requires { ⌜ MoverSound M·HallMemory (now self) ⌝ }
+        ensures answer { λ r. ⌜ r ≡ answered (stopRefused (mean (now (self .entry))) channel) tt ⌝ }
+        ensures state { λ _. ⌜ mean (now (self .exit)) ≡ unlessRefused (stopRefused (mean (now (self .entry))) channel) (mean (now (self .entry))) (stopState (mean (now (self .entry))) channel) ⌝ }
+        ensures memory { λ _. ⌜ now (self .exit) .memory ≡ now (self .entry) .memory ⌝ }
+    {
+        let channel = known_channel(channel)?;
+        running(&self.state.records[channel.0 as usize])?;
+        self.state.records[channel.0 as usize].flags.stop = true;
+        Ok(())
+    }
+
+    // Frees a channel and clears its record; its window stays.
+    pub fn release(&mut self, channel: u32) -> Result<(), ChannelFault>
+        requires { ⌜ MoverSound M·HallMemory (now self) ⌝ }
+        ensures answer { λ r. ⌜ r ≡ answered (releaseRefused (mean (now (self .entry))) channel) tt ⌝ }
+        ensures state { λ _. ⌜ mean (now (self .exit)) ≡ unlessRefused (releaseRefused (mean (now (self .entry))) channel) (mean (now (self .entry))) (releaseState (mean (now (self .entry))) channel) ⌝ }
+        ensures memory { λ _. ⌜ now (self .exit) .memory ≡ now (self .entry) .memory ⌝ }
+    {
+        let channel = known_channel(channel)?;
+        resting(&self.state.records[channel.0 as usize])?;
+        clear(&mut self.state.records[channel.0 as usize], false);
+        Ok(())
+    }
+
+    // Puts the words of a sheet into its places.
+    pub fn fill(&mut self, channel: u32, bytes: &[u8]) -> Result<(), ChannelFault>
+        requires { ⌜ MoverSound M·HallMemory (now self) ⌝ }
+        ensures answer { λ r. ⌜ r ≡ answered (fillRefused (mean (now (self .entry))) channel (now (bytes .entry))) tt ⌝ }
+        ensures state { λ _. ⌜ mean (now (self .exit)) ≡ unlessRefused (fillRefused (mean (now (self .entry))) channel (now (bytes .entry))) (mean (now (self .entry))) (fillState (mean (now (self .entry))) channel (now (bytes .entry))) ⌝ }
+        ensures memory { λ _. ⌜ now (self .exit) .memory ≡ now (self .entry) .memory ⌝ }
+    {
+        let channel = known_channel(channel)?;
+        check(bytes)?;
+        resting(&self.state.records[channel.0 as usize])?;
+        layout::fill(bytes, &mut self.state.records[channel.0 as usize].window);
+        Ok(())
+    }
+
+    pub fn quiet(&mut self)
+        requires { ⌜ MoverSound M·HallMemory (now self) ⌝ }
+        ensures state { λ _. ⌜ mean (now (self .exit)) ≡ withQuiet (mean (now (self .entry))) true ⌝ }
+        ensures memory { λ _. ⌜ now (self .exit) .memory ≡ now (self .entry) .memory ⌝ }
+    {
+        self.state.quiet = true;
+    }
+
+    pub fn wake(&mut self)
+        requires { ⌜ MoverSound M·HallMemory (now self) ⌝ }
+        ensures state { λ _. ⌜ mean (now (self .exit)) ≡ withQuiet (mean (now (self .entry))) false ⌝ }
+        ensures memory { λ _. ⌜ now (self .exit) .memory ≡ now (self .entry) .memory ⌝ }
+    {
+        self.state.quiet = false;
+    }
+}
