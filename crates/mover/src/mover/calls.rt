@@ -35,6 +35,7 @@ impl<M: HallMemory> Mover<M> {
     // Writes one place.
     pub fn put(&mut self, channel: u32, place: u32, word: u32) -> Result<(), ChannelFault>
         requires { ⌜ MoverSound M·HallMemory (now self) ⌝ }
+        ensures sound { λ _. ⌜ MoverSound M·HallMemory (now (self .exit)) ⌝ }
         ensures answer { λ r. ⌜ r ≡ answered (putRefused (mean (now (self .entry))) channel place) tt ⌝ }
         ensures state { λ _. ⌜ mean (now (self .exit)) ≡ unlessRefused (putRefused (mean (now (self .entry))) channel place) (mean (now (self .entry))) (putState (mean (now (self .entry))) channel place word) ⌝ }
         ensures memory { λ _. ⌜ now (self .exit) .memory ≡ now (self .entry) .memory ⌝ }
@@ -49,6 +50,7 @@ impl<M: HallMemory> Mover<M> {
     // Marks a running channel; a second stop adds nothing.
     pub fn stop(&mut self, channel: u32) -> Result<(), ChannelFault>
         requires { ⌜ MoverSound M·HallMemory (now self) ⌝ }
+        ensures sound { λ _. ⌜ MoverSound M·HallMemory (now (self .exit)) ⌝ }
         ensures answer { λ r. ⌜ r ≡ answered (stopRefused (mean (now (self .entry))) channel) tt ⌝ }
         ensures state { λ _. ⌜ mean (now (self .exit)) ≡ unlessRefused (stopRefused (mean (now (self .entry))) channel) (mean (now (self .entry))) (stopState (mean (now (self .entry))) channel) ⌝ }
         ensures memory { λ _. ⌜ now (self .exit) .memory ≡ now (self .entry) .memory ⌝ }
@@ -62,6 +64,7 @@ impl<M: HallMemory> Mover<M> {
     // Frees a channel and clears its record; its window stays.
     pub fn release(&mut self, channel: u32) -> Result<(), ChannelFault>
         requires { ⌜ MoverSound M·HallMemory (now self) ⌝ }
+        ensures sound { λ _. ⌜ MoverSound M·HallMemory (now (self .exit)) ⌝ }
         ensures answer { λ r. ⌜ r ≡ answered (releaseRefused (mean (now (self .entry))) channel) tt ⌝ }
         ensures state { λ _. ⌜ mean (now (self .exit)) ≡ unlessRefused (releaseRefused (mean (now (self .entry))) channel) (mean (now (self .entry))) (releaseState (mean (now (self .entry))) channel) ⌝ }
         ensures memory { λ _. ⌜ now (self .exit) .memory ≡ now (self .entry) .memory ⌝ }
@@ -75,6 +78,7 @@ impl<M: HallMemory> Mover<M> {
     // Puts the words of a sheet into its places.
     pub fn fill(&mut self, channel: u32, bytes: &[u8]) -> Result<(), ChannelFault>
         requires { ⌜ MoverSound M·HallMemory (now self) ⌝ }
+        ensures sound { λ _. ⌜ MoverSound M·HallMemory (now (self .exit)) ⌝ }
         ensures answer { λ r. ⌜ r ≡ answered (fillRefused (mean (now (self .entry))) channel (now (bytes .entry))) tt ⌝ }
         ensures state { λ _. ⌜ mean (now (self .exit)) ≡ unlessRefused (fillRefused (mean (now (self .entry))) channel (now (bytes .entry))) (mean (now (self .entry))) (fillState (mean (now (self .entry))) channel (now (bytes .entry))) ⌝ }
         ensures memory { λ _. ⌜ now (self .exit) .memory ≡ now (self .entry) .memory ⌝ }
@@ -88,6 +92,7 @@ impl<M: HallMemory> Mover<M> {
 
     pub fn quiet(&mut self)
         requires { ⌜ MoverSound M·HallMemory (now self) ⌝ }
+        ensures sound { λ _. ⌜ MoverSound M·HallMemory (now (self .exit)) ⌝ }
         ensures state { λ _. ⌜ mean (now (self .exit)) ≡ withQuiet (mean (now (self .entry))) true ⌝ }
         ensures memory { λ _. ⌜ now (self .exit) .memory ≡ now (self .entry) .memory ⌝ }
     {
@@ -96,6 +101,7 @@ impl<M: HallMemory> Mover<M> {
 
     pub fn wake(&mut self)
         requires { ⌜ MoverSound M·HallMemory (now self) ⌝ }
+        ensures sound { λ _. ⌜ MoverSound M·HallMemory (now (self .exit)) ⌝ }
         ensures state { λ _. ⌜ mean (now (self .exit)) ≡ withQuiet (mean (now (self .entry))) false ⌝ }
         ensures memory { λ _. ⌜ now (self .exit) .memory ≡ now (self .entry) .memory ⌝ }
     {

@@ -1,0 +1,120 @@
+-- One channel of a sound mover in plain terms: its record, how often it stands in each line, its final pieces, its places due.
+-- A change of the mover is then a change of these for one channel, and of nothing for the others.
+use Prim.Native.Nat.{ℕ, _+_, _-_, _≤_, _<_}
+use lib.ListN.{length, getD, set}
+use mathlib.Core.Bool.{Bool, true, false}
+use mathlib.Core.List.{List, []}
+use mathlib.Core.Logic.{_≢_, ⊎-elim}
+use mathlib.Core.Path.{_≡_, refl, sym, ap, subst, _∙_}
+use mir.Val.{boolByte}
+use native.Mathlib.Omega.{arith}
+use Rattle.std.proofs.shelf.Lists.{getD-set-same, getD-set-other, length-set}
+use Rattle.std.proofs.shelf.Tests.{cases-eq}
+use Rattle.std.proofs.shelf.Ways.{tells}
+use Rattle.memory.specs.Views.{View}
+use Rattle.program.specs.Pieces.{countUp}
+use Rattle.machine.specs.Means.{Mean, Window, recordOf, withRecord, withWindow, absent}
+use Rattle.machine.specs.Soundness.{times, finals, dues, placesDue, stillDue, ChannelSound, Sound}
+use Rattle.machine.specs.declared.record.Record.{Record}
+
+pub record Stands (r : Record) (s b f : ℕ) (places : List ℕ) : Type 0 where
+  pub window : length (r .window) ≡ 256
+  pub placed : s + b + f ≡ boolByte (r .flags .running)
+  pub single-line : 0 < s → r .program .single ≡ true
+  pub block-line : 0 < b → r .program .single ≡ false
+  pub held : r .flags .running ≡ true → r .flags .reserved ≡ true
+  pub ordered : r .program .first ≤ r .program .last
+  pub within : r .program .last < 256
+  pub one-place : r .program .single ≡ true → r .program .first ≡ r .program .last
+  pub landed-sent : r .counts .landed ≤ r .counts .sent
+  pub sent-all : r .counts .sent ≤ r .program .last + 1 - r .program .first
+  pub unsent : 0 < s + b → r .counts .sent ≤ r .program .last - r .program .first
+  pub due : places ≡ countUp (stillDue r) (r .program .first + r .counts .landed)
+
+abbrev pub StandsIn : Mean → ℕ → Type 0
+StandsIn m c = Stands (recordOf m c) (times c (m .singles)) (times c (m .blocks)) (finals c (m .flight)) (placesDue c (dues (m .flight)))
+
+pub stands : (m : Mean) (c : ℕ) → ChannelSound m c → StandsIn m c
+stands m c h = record {
+  window = h .window;
+  placed = h .placed;
+  single-line = h .single-line;
+  block-line = h .block-line;
+  held = h .held;
+  ordered = h .ordered;
+  within = h .within;
+  one-place = h .one-place;
+  landed-sent = h .landed-sent;
+  sent-all = h .sent-all;
+  unsent = h .unsent;
+  due = h .due;
+}
+
+channel-sound : (m : Mean) (c : ℕ) → StandsIn m c → ChannelSound m c
+channel-sound m c h = record {
+  window = h .window;
+  placed = h .placed;
+  single-line = h .single-line;
+  block-line = h .block-line;
+  held = h .held;
+  ordered = h .ordered;
+  within = h .within;
+  one-place = h .one-place;
+  landed-sent = h .landed-sent;
+  sent-all = h .sent-all;
+  unsent = h .unsent;
+  due = h .due;
+}
+
+pub same-stands : (q r : Record) (t c g s b f : ℕ) (qs ps : List ℕ) → q ≡ r → t ≡ s → c ≡ b → g ≡ f → qs ≡ ps → Stands r s b f ps → Stands q t c g qs
+same-stands q r t c g s b f qs ps er es eb ef ep h =
+    subst (λ (x : Record). Stands x t c g qs) (sym er)
+      (subst (λ (x : ℕ). Stands r x c g qs) (sym es)
+        (subst (λ (x : ℕ). Stands r s x g qs) (sym eb)
+          (subst (λ (x : ℕ). Stands r s b x qs) (sym ef) (subst (λ (x : List ℕ). Stands r s b f x) (sym ep) h))))
+
+pub channel-from : (m : Mean) (c : ℕ) (r : Record) (s b f : ℕ) (ps : List ℕ) → recordOf m c ≡ r → times c (m .singles) ≡ s → times c (m .blocks) ≡ b
+  → finals c (m .flight) ≡ f → placesDue c (dues (m .flight)) ≡ ps → Stands r s b f ps → ChannelSound m c
+channel-from m c r s b f ps er es eb ef ep h = channel-sound m c (same-stands _ r _ _ _ s b f _ ps er es eb ef ep h)
+
+-- the record of one channel is another, and all else of each channel is as it was
+pub record-same : (m : Mean) (c : ℕ) (r : Record) → length (m .records) ≡ 16 → c < 16 → getD (set (m .records) c r) c absent ≡ r
+record-same m c r wide low = getD-set-same (m .records) c r absent (omega arith)
+
+pub record-other : (m : Mean) (c d : ℕ) (r : Record) → d ≢ c → getD (set (m .records) c r) d absent ≡ recordOf m d
+record-other m c d r apart = getD-set-other (m .records) c d r absent apart
+
+pub replaced : (m : Mean) (v : View) (c : ℕ) (r : Record) → Sound m v → c < 16
+  → Stands r (times c (m .singles)) (times c (m .blocks)) (finals c (m .flight)) (placesDue c (dues (m .flight))) → Sound (withRecord m c r) v
+replaced m v c r sound low h = record {
+  wide = length-set (m .records) c r ∙ sound .wide;
+  channels = λ d near.
+      ⊎-elim
+        (λ same. subst (ChannelSound (withRecord m c r)) (sym same)
+          (channel-from (withRecord m c r) c r _ _ _ _ (record-same m c r (sound .wide) low) refl refl refl refl h))
+        (λ apart. channel-from (withRecord m c r) d (recordOf m d) _ _ _ _ (record-other m c d r apart) refl refl refl refl (stands m d (sound .channels d near)))
+        (cases-eq d c);
+  singles-fit = sound .singles-fit;
+  blocks-fit = sound .blocks-fit;
+  pieces-fit = sound .pieces-fit;
+  few = sound .few;
+  finals-last = sound .finals-last;
+  tied = sound .tied;
+}
+
+-- a window of the same length
+pub new-window : (r : Record) (s b f : ℕ) (ps : List ℕ) (w : Window) → length w ≡ 256 → Stands r s b f ps → Stands (withWindow r w) s b f ps
+new-window r s b f ps w long h = record {
+  window = long;
+  placed = h .placed;
+  single-line = h .single-line;
+  block-line = h .block-line;
+  held = h .held;
+  ordered = h .ordered;
+  within = h .within;
+  one-place = h .one-place;
+  landed-sent = h .landed-sent;
+  sent-all = h .sent-all;
+  unsent = h .unsent;
+  due = h .due;
+}

@@ -1,0 +1,3 @@
+pub mod KeptCalls
+pub mod KeptChannels
+pub mod KeptCounts
