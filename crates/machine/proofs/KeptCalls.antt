@@ -25,7 +25,7 @@ use Rattle.machine.specs.Soundness.{newMean, times, finals, dues, placesDue, s
 use Rattle.machine.specs.declared.record.Record.{Record}
 use Rattle.machine.specs.declared.record.Stored.{Stored}
 use Rattle.machine.proofs.KeptCounts.{times-append, times-here, times-other, channels-append}
-use Rattle.machine.proofs.KeptChannels.{Stands, stands, same-stands, channel-from, replaced, record-same, record-other, new-window}
+use Rattle.machine.proofs.KeptChannels.{Stands, stands, same-stands, channel-from, changed, replaced, new-window}
 
 -- no place is counted from any place on
 pub none-counted : (a : ℕ) → [] ≡ countUp 0 a
@@ -174,3 +174,44 @@ started-stands p w s b long once singles blocks ordered within one-place =
       unsent = λ _. omega arith;
       due = none-counted (p .first + 0) ∙ ap (λ (n : ℕ). countUp n (p .first + 0)) (sym none);
     }
+
+pub sound-start : (m : Mean) (v : View) (c : ℕ) (p : Stored) → Sound m v → c < 16 → recordOf m c .flags .running ≡ false → p .first ≤ p .last → p .last < 256
+  → (p .single ≡ true → p .first ≡ p .last) → Sound (startProgram m c p) v
+sound-start m v c p sound low rests ordered within one-place =
+    ⊎-elim (λ single. subst (λ (b : Bool). Sound (joinLine b c (withRecord m c (started p (recordOf m c .window)))) v) (sym single) (to-singles single))
+      (λ block. subst (λ (b : Bool). Sound (joinLine b c (withRecord m c (started p (recordOf m c .window)))) v) (sym block) (to-blocks block)) (cases-bool (p .single))
+  where
+    at : (times c (m .singles) ≡ 0) × (times c (m .blocks) ≡ 0) × (finals c (m .flight) ≡ 0) × (placesDue c (dues (m .flight)) ≡ [])
+    at = idle _ _ _ _ _ (stands m c (sound .channels c low)) rests
+    once : (l : List Channel) → times c l ≡ 0 → times c (l ++ record { 0 = c } ∷ []) ≡ 1
+    once l none = omega (arith, times-append c l (record { 0 = c } ∷ []), times-here c (record { 0 = c }) refl)
+    apart : (l : List Channel) (d : ℕ) → d ≢ c → times d (l ++ record { 0 = c } ∷ []) ≡ times d l
+    apart l d h = omega (arith, times-append d l (record { 0 = c } ∷ []), times-other d (record { 0 = c }) (λ e. h (sym e)))
+    to-singles : p .single ≡ true → Sound (joinLine true c (withRecord m c (started p (recordOf m c .window)))) v
+    to-singles single =
+        changed m (joinLine true c (withRecord m c (started p (recordOf m c .window)))) v v c (started p (recordOf m c .window)) 1 0 0 [] sound low refl
+          (once (m .singles) (at .0)) (at .1) (at .2) (at .3)
+          (started-stands p _ 1 0 (sound .channels c low .window) refl (λ _. single) (λ h. absurd (omega arith)) ordered within one-place)
+          (λ d h. record { singles = apart (m .singles) d h; blocks = refl; finals = refl; places = refl })
+          (record {
+            singles-fit = channels-append (m .singles) _ (sound .singles-fit) (low, tt);
+            blocks-fit = sound .blocks-fit;
+            pieces-fit = sound .pieces-fit;
+            few = sound .few;
+            finals-last = sound .finals-last;
+            tied = sound .tied;
+          })
+    to-blocks : p .single ≡ false → Sound (joinLine false c (withRecord m c (started p (recordOf m c .window)))) v
+    to-blocks block =
+        changed m (joinLine false c (withRecord m c (started p (recordOf m c .window)))) v v c (started p (recordOf m c .window)) 0 1 0 [] sound low refl
+          (at .0) (once (m .blocks) (at .1)) (at .2) (at .3)
+          (started-stands p _ 0 1 (sound .channels c low .window) refl (λ h. absurd (omega arith)) (λ _. block) ordered within one-place)
+          (λ d h. record { singles = refl; blocks = apart (m .blocks) d h; finals = refl; places = refl })
+          (record {
+            singles-fit = sound .singles-fit;
+            blocks-fit = channels-append (m .blocks) _ (sound .blocks-fit) (low, tt);
+            pieces-fit = sound .pieces-fit;
+            few = sound .few;
+            finals-last = sound .finals-last;
+            tied = sound .tied;
+          })

@@ -10,11 +10,10 @@ use mir.Val.{boolByte}
 use native.Mathlib.Omega.{arith}
 use Rattle.std.proofs.shelf.Lists.{getD-set-same, getD-set-other, length-set}
 use Rattle.std.proofs.shelf.Tests.{cases-eq}
-use Rattle.std.proofs.shelf.Ways.{tells}
 use Rattle.memory.specs.Views.{View}
 use Rattle.program.specs.Pieces.{countUp}
 use Rattle.machine.specs.Means.{Mean, Window, recordOf, withRecord, withWindow, absent}
-use Rattle.machine.specs.Soundness.{times, finals, dues, placesDue, stillDue, ChannelSound, Sound}
+use Rattle.machine.specs.Soundness.{times, finals, dues, placesDue, stillDue, FinalLast, ChannelsFit, PiecesFit, ChannelSound, Sound}
 use Rattle.machine.specs.declared.record.Record.{Record}
 
 pub record Stands (r : Record) (s b f : ℕ) (places : List ℕ) : Type 0 where
@@ -77,30 +76,56 @@ pub channel-from : (m : Mean) (c : ℕ) (r : Record) (s b f : ℕ) (ps : List �
   → finals c (m .flight) ≡ f → placesDue c (dues (m .flight)) ≡ ps → Stands r s b f ps → ChannelSound m c
 channel-from m c r s b f ps er es eb ef ep h = channel-sound m c (same-stands _ r _ _ _ s b f _ ps er es eb ef ep h)
 
--- the record of one channel is another, and all else of each channel is as it was
-pub record-same : (m : Mean) (c : ℕ) (r : Record) → length (m .records) ≡ 16 → c < 16 → getD (set (m .records) c r) c absent ≡ r
-record-same m c r wide low = getD-set-same (m .records) c r absent (omega arith)
+-- where a channel stands is the same in both
+pub record Alike (m n : Mean) (d : ℕ) : Type 0 where
+  pub singles : times d (n .singles) ≡ times d (m .singles)
+  pub blocks : times d (n .blocks) ≡ times d (m .blocks)
+  pub finals : finals d (n .flight) ≡ finals d (m .flight)
+  pub places : placesDue d (dues (n .flight)) ≡ placesDue d (dues (m .flight))
 
-pub record-other : (m : Mean) (c d : ℕ) (r : Record) → d ≢ c → getD (set (m .records) c r) d absent ≡ recordOf m d
-record-other m c d r apart = getD-set-other (m .records) c d r absent apart
+-- what the lines and the flight are asked as a whole
+pub record Whole (m : Mean) (v : View) : Type 0 where
+  pub singles-fit : ChannelsFit (m .singles)
+  pub blocks-fit : ChannelsFit (m .blocks)
+  pub pieces-fit : PiecesFit (m .flight)
+  pub few : length (m .flight) ≤ 4
+  pub finals-last : FinalLast (m .flight)
+  pub tied : length (v .transit) ≡ length (dues (m .flight))
+
+-- one channel changed, and the others stand as they did
+pub changed : (m n : Mean) (v w : View) (c : ℕ) (r : Record) (s b f : ℕ) (ps : List ℕ) → Sound m v → c < 16 → n .records ≡ set (m .records) c r
+  → times c (n .singles) ≡ s → times c (n .blocks) ≡ b → finals c (n .flight) ≡ f → placesDue c (dues (n .flight)) ≡ ps → Stands r s b f ps
+  → ((d : ℕ) → d ≢ c → Alike m n d) → Whole n w → Sound n w
+changed m n v w c r s b f ps sound low er es eb ef ep h others whole = record {
+  wide = ap length er ∙ length-set (m .records) c r ∙ sound .wide;
+  channels = λ d near.
+      ⊎-elim
+        (λ same. subst (ChannelSound n) (sym same)
+          (channel-from n c r s b f ps (ap (λ (l : List Record). getD l c absent) er ∙ getD-set-same (m .records) c r absent (omega (arith, sound .wide))) es eb ef ep h))
+        (λ apart. let k = others d apart in
+          channel-from n d (recordOf m d) _ _ _ _ (ap (λ (l : List Record). getD l d absent) er ∙ getD-set-other (m .records) c d r absent apart)
+            (k .singles) (k .blocks) (k .finals) (k .places) (stands m d (sound .channels d near)))
+        (cases-eq d c);
+  singles-fit = whole .singles-fit;
+  blocks-fit = whole .blocks-fit;
+  pieces-fit = whole .pieces-fit;
+  few = whole .few;
+  finals-last = whole .finals-last;
+  tied = whole .tied;
+}
 
 pub replaced : (m : Mean) (v : View) (c : ℕ) (r : Record) → Sound m v → c < 16
   → Stands r (times c (m .singles)) (times c (m .blocks)) (finals c (m .flight)) (placesDue c (dues (m .flight))) → Sound (withRecord m c r) v
-replaced m v c r sound low h = record {
-  wide = length-set (m .records) c r ∙ sound .wide;
-  channels = λ d near.
-      ⊎-elim
-        (λ same. subst (ChannelSound (withRecord m c r)) (sym same)
-          (channel-from (withRecord m c r) c r _ _ _ _ (record-same m c r (sound .wide) low) refl refl refl refl h))
-        (λ apart. channel-from (withRecord m c r) d (recordOf m d) _ _ _ _ (record-other m c d r apart) refl refl refl refl (stands m d (sound .channels d near)))
-        (cases-eq d c);
-  singles-fit = sound .singles-fit;
-  blocks-fit = sound .blocks-fit;
-  pieces-fit = sound .pieces-fit;
-  few = sound .few;
-  finals-last = sound .finals-last;
-  tied = sound .tied;
-}
+replaced m v c r sound low h =
+    changed m (withRecord m c r) v v c r _ _ _ _ sound low refl refl refl refl refl h (λ d apart. record { singles = refl; blocks = refl; finals = refl; places = refl })
+      (record {
+        singles-fit = sound .singles-fit;
+        blocks-fit = sound .blocks-fit;
+        pieces-fit = sound .pieces-fit;
+        few = sound .few;
+        finals-last = sound .finals-last;
+        tied = sound .tied;
+      })
 
 -- a window of the same length
 pub new-window : (r : Record) (s b f : ℕ) (ps : List ℕ) (w : Window) → length w ≡ 256 → Stands r s b f ps → Stands (withWindow r w) s b f ps

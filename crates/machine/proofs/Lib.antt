@@ -1,3 +1,4 @@
 pub mod KeptCalls
 pub mod KeptChannels
 pub mod KeptCounts
+pub mod KeptLines

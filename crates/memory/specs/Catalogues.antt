@@ -1,17 +1,17 @@
 -- The catalogue memory, by its entries, its replies in transit and its wait.
-use Prim.Native.Nat.{ℕ, suc, _-_, _≤_, _<_}
+use Prim.Native.Nat.{ℕ, _-_, _≤_, _<_}
 use lib.Dec.{leb, ltb, eqb}
 use lib.ListN.{length, getD, set}
 use mathlib.Core.Bool.{Bool, cond, _&&_, _||_}
 use mathlib.Core.List.{List, [], _∷_, _++_}
 use mathlib.Core.Path.{_≡_}
 use Rattle.std.specs.Of.Vec.{vec-items}
-use Rattle.std.specs.Options.{mapped}
 use Rattle.std.specs.declared.option.Option.{Option}
 use Rattle.std.specs.declared.option.Option.the-variants.{Some, None}
 use Rattle.std.specs.declared.result.Result.{Result}
 use Rattle.std.specs.declared.result.Result.the-variants.{Ok, Err}
 use Rattle.numbers.specs.Rising.{notRising}
+use Rattle.numbers.specs.Search.{firstIndex}
 use Rattle.operators.specs.Modes.{wantsReply, wordAfter}
 use Rattle.operators.specs.declared.action.Action.{Action}
 use Rattle.queue.specs.Queues.{items, Sound}
@@ -31,9 +31,11 @@ abbrev pub absent : Entry
 absent = record { cell = record { 0 = 0 }; word = 0 }
 
 -- the index of the entry of a cell
+abbrev pub isCell : ℕ → Entry → Bool
+isCell a e = eqb (cellOf e) a
+
 abbrev pub entryIndex : ℕ → List Entry → Option ℕ
-entryIndex a [] = None
-entryIndex a (e ∷ es) = cond (eqb (cellOf e) a) (Some 0) (mapped suc (entryIndex a es))
+entryIndex a es = firstIndex (isCell a) es
 
 -- the word of the entry of a cell
 abbrev pub entryWord : List Entry → ℕ → Option ℕ

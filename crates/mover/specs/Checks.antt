@@ -12,6 +12,9 @@ use Rattle.machine.specs.declared.fault.ChannelFault.{ChannelFault}
 use Rattle.machine.specs.declared.fault.ChannelFault.the-variants.{NoChannel, NoPlace}
 use Rattle.machine.specs.declared.record.Record.{Record}
 
+abbrev pub toChannel : ℕ → Channel
+toChannel n = record { 0 = n }
+
 abbrev pub channelCheck : ℕ → Result Channel ChannelFault
 channelCheck c = cond (leb c 15) (Ok (record { 0 = c })) (Err NoChannel)
 

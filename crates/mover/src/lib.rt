@@ -2,3 +2,4 @@
 mod checks;
 pub mod mover;
 mod records;
+mod status;

@@ -1,3 +1,4 @@
 pub mod Numbers
 pub mod Refusals
 pub mod Rising
+pub mod Search

@@ -4,14 +4,18 @@ use crate::checks::reserved;
 use crate::checks::resting;
 use crate::checks::running;
 use crate::mover::Mover;
-use crate::records::clear;
+use crate::records::clear_record;
+use crate::records::empty_record;
+use crate::records::lowest_free;
+use crate::status::status_word;
 use machine::fault::ChannelFault;
 use memory::interface::HallMemory;
+use numbers::channel::Channel;
 use machine::fault::SheetIntoChannel;
 use sheet::layout;
 use sheet::layout::check;
 ghost use mathlib.Core.Path.{_≡_};
-ghost use Rattle.machine.specs.Calls.{answered, unlessRefused, putRefused, putState, lookAnswer, stopRefused, stopState, releaseRefused, releaseState, fillRefused, fillState};
+ghost use Rattle.machine.specs.Calls.{answered, unlessRefused, putRefused, putState, lookAnswer, stopRefused, stopState, releaseRefused, releaseState, fillRefused, fillState, reserveAnswer, reserveState, statusAnswer};
 ghost use Rattle.machine.specs.Means.{withQuiet};
 ghost use mathlib.Core.Bool.{true, false};
 ghost use Rattle.mover.specs.Meaning.{mean, MoverSound};
@@ -71,7 +75,8 @@ impl<M: HallMemory> Mover<M> {
     {
         let channel = known_channel(channel)?;
         resting(&self.state.records[channel.0 as usize])?;
-        clear(&mut self.state.records[channel.0 as usize], false);
+        let window = self.state.records[channel.0 as usize].window;
+        self.state.records[channel.0 as usize] = clear_record(false, window);
         Ok(())
     }
 
@@ -106,5 +111,31 @@ impl<M: HallMemory> Mover<M> {
         ensures memory { λ _. ⌜ now (self .exit) .memory ≡ now (self .entry) .memory ⌝ }
     {
         self.state.quiet = false;
+    }
+
+    // Gives the lowest free channel, with an empty window and a clear record.
+    pub fn reserve(&mut self) -> Result<Channel, ChannelFault>
+        requires { ⌜ MoverSound M·HallMemory (now self) ⌝ }
+        ensures sound { λ _. ⌜ MoverSound M·HallMemory (now (self .exit)) ⌝ }
+        ensures answer { λ r. ⌜ r ≡ reserveAnswer (mean (now (self .entry))) ⌝ }
+        ensures state { λ _. ⌜ mean (now (self .exit)) ≡ reserveState (mean (now (self .entry))) ⌝ }
+        ensures memory { λ _. ⌜ now (self .exit) .memory ≡ now (self .entry) .memory ⌝ }
+    {
+        let Some(channel) = lowest_free(&self.state.records) else {
+            return Err(ChannelFault::NoneFree);
+        };
+        self.state.records[channel.0 as usize] = empty_record(true);
+        Ok(channel)
+    }
+
+    // Tells the status word of a channel, reserved or not.
+    pub fn status(&self, channel: u32) -> Result<u32, ChannelFault>
+        requires { ⌜ MoverSound M·HallMemory (now self) ⌝ }
+        ensures { λ r. ⌜ r ≡ statusAnswer (mean (now (self .entry))) channel ⌝ }
+    {
+        let channel = known_channel(channel)?;
+        let free = lowest_free(&self.state.records);
+        let record = &self.state.records[channel.0 as usize];
+        Ok(status_word(record.flags, record.counts, free, self.state.quiet))
     }
 }
