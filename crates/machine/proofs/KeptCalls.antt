@@ -24,13 +24,8 @@ use Rattle.machine.specs.Means.{Mean, Window, cleared, recordOf, withRecord, w
 use Rattle.machine.specs.Soundness.{newMean, times, finals, dues, placesDue, stillDue, ChannelSound, ChannelsFit, Sound}
 use Rattle.machine.specs.declared.record.Record.{Record}
 use Rattle.machine.specs.declared.record.Stored.{Stored}
-use Rattle.machine.proofs.KeptCounts.{times-append, times-here, times-other, channels-append}
+use Rattle.machine.proofs.KeptCounts.{none-counted, times-append, times-here, times-other, channels-append}
 use Rattle.machine.proofs.KeptChannels.{Stands, stands, same-stands, channel-from, changed, replaced, new-window}
-
--- no place is counted from any place on
-pub none-counted : (a : ℕ) → [] ≡ countUp 0 a
-unfolding countUp
-none-counted a = refl
 
 -- a clear record, of a channel that stands nowhere
 pub clear-stands : (reserved : Bool) (w : Window) → length w ≡ 256 → Stands (cleared reserved w) 0 0 0 []

@@ -15,6 +15,10 @@ use Rattle.program.specs.Pieces.{countUp}
 use Rattle.machine.specs.Soundness.{times, finals, Due, dueFrom, dues, placesDue, ChannelsFit, PiecesFit}
 use Rattle.machine.specs.declared.piece.Piece.{Piece}
 
+pub none-counted : (a : ℕ) → [] ≡ countUp 0 a
+unfolding countUp
+none-counted a = refl
+
 pub count-split : (m n a : ℕ) → countUp (m + n) a ≡ countUp m a ++ countUp n (a + m)
 unfolding countUp
 count-split zero n a = rw (zero-add, add-zero) refl

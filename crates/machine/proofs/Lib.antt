@@ -1,4 +1,17 @@
 pub mod KeptCalls
 pub mod KeptChannels
 pub mod KeptCounts
+pub mod KeptLanding
 pub mod KeptLines
+pub mod KeptService
+pub mod Linked
+pub mod Moved
+pub mod Summing
+pub mod TraceAlone
+pub mod TraceCalls
+pub mod TraceLinks
+pub mod TraceRuns
+pub mod TraceSends
+pub mod TraceService
+pub mod TraceStatus
+pub mod TraceTurn

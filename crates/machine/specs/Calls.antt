@@ -128,11 +128,13 @@ sendsWords p = cond (p .single) false (elim (p .mode) [ Load ↦ false | Store �
 abbrev pub emptyRefused : Stored → Window → Refused
 emptyRefused p window = cond (sendsWords p) (mapped fault.Empty (firstEmpty (p .last + 1 - p .first) (p .first) window)) None
 
+-- the checks of a start on a channel and a program that are known
+abbrev pub startChecks : Mean → ℕ → Stored → Refused
+startChecks m c p =
+    checkReserved (recordOf m c) (checkResting (recordOf m c) (cond (m .quiet) (Some fault.Quiet) (emptyRefused p (recordOf m c .window))))
+
 abbrev pub startRefused : Mean → ℕ → Words → Refused
-startRefused m c w =
-    checkChannel c (checkProgram (readProgram w) (λ p.
-      checkReserved (recordOf m c) (checkResting (recordOf m c)
-        (cond (m .quiet) (Some fault.Quiet) (emptyRefused (stored p) (recordOf m c .window))))))
+startRefused m c w = checkChannel c (checkProgram (readProgram w) (λ p. startChecks m c (stored p)))
 
 -- start sets the channel running and both counts to 0, clears error and stop, and puts the channel at the end of its line
 abbrev pub started : Stored → Window → Record

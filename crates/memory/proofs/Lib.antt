@@ -1,1 +1,7 @@
 pub mod Entries
+pub mod Merging
+pub mod RouterSends
+pub mod RouterTakes
+pub mod RouterWaits
+pub mod Routing
+pub mod Spreading

@@ -2,4 +2,6 @@ pub mod Catalogues
 pub mod Effects
 pub mod Faults
 pub mod Flats
+pub mod Routers
+pub mod Spreaders
 pub mod Views

@@ -4,3 +4,5 @@ pub mod fault;
 pub mod flat;
 pub mod interface;
 pub mod request;
+pub mod router;
+pub mod spreader;

@@ -1,3 +1,4 @@
 pub mod Checks
+pub mod Making
 pub mod Meaning
 pub mod Status

@@ -1,4 +1,5 @@
 pub mod calls;
+pub mod making;
 
 use machine::state::State;
 

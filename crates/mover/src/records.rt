@@ -8,8 +8,9 @@ use operators::mode::Mode;
 use program::kind::Program;
 ghost use Prim.Native.Nat.{_+_, _-_, _≤_, _<_};
 ghost use lib.ListN.{length};
+ghost use mathlib.Core.Bool.{true};
 ghost use mathlib.Core.Path.{_≡_};
-ghost use Rattle.machine.specs.Calls.{answered, emptyWindow, lowestFree, stored, sendsWords, firstEmpty, emptyRefused};
+ghost use Rattle.machine.specs.Calls.{answered, emptyWindow, lowestFree, stored, sendsWords, firstEmpty, emptyRefused, started};
 ghost use Rattle.machine.specs.Means.{cleared};
 ghost use Rattle.mover.specs.Checks.{toChannel};
 ghost use Rattle.std.specs.Options.{mapped};
@@ -46,6 +47,23 @@ pub fn empty_record(reserved: bool) -> Record
     clear_record(reserved, [None; 256])
 }
 
+// A record that begins to run a program; the window stays.
+pub fn started_record(program: Stored, window: [Option<u32>; 256]) -> Record
+    ensures { λ r. ⌜ r ≡ started program window ⌝ }
+{
+    Record {
+        flags: Flags {
+            reserved: true,
+            running: true,
+            error: false,
+            stop: false,
+        },
+        counts: Counts { sent: 0, landed: 0 },
+        program,
+        window,
+    }
+}
+
 // The lowest channel that is not reserved.
 pub fn lowest_free(channels: &[Record; 16]) -> Option<Channel>
     requires { ⌜ length (now channels) ≡ 16 ⌝ }
@@ -62,7 +80,9 @@ pub fn lowest_free(channels: &[Record; 16]) -> Option<Channel>
 
 // A program in plain numbers.
 pub fn store(program: &Program) -> Stored
-    ensures { λ r. ⌜ r ≡ stored (now (program .entry)) ⌝ }
+    ensures value { λ r. ⌜ r ≡ stored (now (program .entry)) ⌝ }
+    ensures ordered { λ r. ⌜ r .first ≤ r .last ⌝ }
+    ensures one { λ r. ⌜ (r .single ≡ true → r .first ≡ r .last) ⌝ }
 {
     match *program {
         Program::Block(block) => Stored {

@@ -6,19 +6,29 @@ use crate::checks::running;
 use crate::mover::Mover;
 use crate::records::clear_record;
 use crate::records::empty_record;
+use crate::records::filled;
 use crate::records::lowest_free;
+use crate::records::started_record;
+use crate::records::store;
 use crate::status::status_word;
 use machine::fault::ChannelFault;
 use memory::interface::HallMemory;
 use numbers::channel::Channel;
+use machine::fault::ProgramIntoChannel;
 use machine::fault::SheetIntoChannel;
+use machine::record::Stored;
+use program::kind::Program;
+use program::layout::Words;
 use sheet::layout;
 use sheet::layout::check;
+ghost use Prim.Native.Nat.{_≤_, _<_};
+ghost use lib.ListN.{length};
 ghost use mathlib.Core.Path.{_≡_};
-ghost use Rattle.machine.specs.Calls.{answered, unlessRefused, putRefused, putState, lookAnswer, stopRefused, stopState, releaseRefused, releaseState, fillRefused, fillState, reserveAnswer, reserveState, statusAnswer};
-ghost use Rattle.machine.specs.Means.{withQuiet};
+ghost use Rattle.queue.specs.Queues.{items};
+ghost use Rattle.machine.specs.Calls.{answered, unlessRefused, putRefused, putState, lookAnswer, stopRefused, stopState, releaseRefused, releaseState, fillRefused, fillState, reserveAnswer, reserveState, startRefused, startState, startChecks, startProgram, joinLine, statusAnswer};
+ghost use Rattle.machine.specs.Means.{recordOf, withQuiet};
 ghost use mathlib.Core.Bool.{true, false};
-ghost use Rattle.mover.specs.Meaning.{mean, MoverSound};
+ghost use Rattle.mover.specs.Meaning.{mean, LinesSound, MoverSound};
 
 impl<M: HallMemory> Mover<M> {
     // Tells one place.
@@ -137,5 +147,68 @@ impl<M: HallMemory> Mover<M> {
         let free = lowest_free(&self.state.records);
         let record = &self.state.records[channel.0 as usize];
         Ok(status_word(record.flags, record.counts, free, self.state.quiet))
+    }
+
+    // Puts a channel at the end of the line of its kind.
+    fn join_line(&mut self, single: bool, channel: Channel)
+        requires sound { ⌜ LinesSound (now self .state) ⌝ }
+        requires singles { ⌜ length (items (now self .state .singles)) < 16 ⌝ }
+        requires blocks { ⌜ length (items (now self .state .blocks)) < 16 ⌝ }
+        ensures sound { λ _. ⌜ LinesSound (now (self .exit) .state) ⌝ }
+        ensures state { λ _. ⌜ mean (now (self .exit)) ≡ joinLine single (channel .0) (mean (now (self .entry))) ⌝ }
+        ensures memory { λ _. ⌜ now (self .exit) .memory ≡ now (self .entry) .memory ⌝ }
+    {
+        if single {
+            self.state.singles.push(channel);
+        } else {
+            self.state.blocks.push(channel);
+        }
+    }
+
+    // Checks 22 to 25 of start.
+    fn startable(&self, channel: Channel, program: &Stored) -> Result<(), ChannelFault>
+        requires sound { ⌜ MoverSound M·HallMemory (now self) ⌝ }
+        requires low { ⌜ channel .0 < 16 ⌝ }
+        requires ordered { ⌜ now program .first ≤ now program .last ⌝ }
+        ensures { λ r. ⌜ r ≡ answered (startChecks (mean (now (self .entry))) (channel .0) (now (program .entry))) tt ⌝ }
+    {
+        let record = &self.state.records[channel.0 as usize];
+        resting(record)?;
+        if self.state.quiet {
+            return Err(ChannelFault::Quiet);
+        }
+        filled(program, &record.window)
+    }
+
+    // Sets a resting channel running, at the end of its line.
+    fn begin(&mut self, channel: Channel, program: Stored)
+        requires sound { ⌜ MoverSound M·HallMemory (now self) ⌝ }
+        requires low { ⌜ channel .0 < 16 ⌝ }
+        requires rests { ⌜ recordOf (mean (now self)) (channel .0) .flags .running ≡ false ⌝ }
+        requires ordered { ⌜ program .first ≤ program .last ⌝ }
+        requires one { ⌜ (program .single ≡ true → program .first ≡ program .last) ⌝ }
+        ensures sound { λ _. ⌜ MoverSound M·HallMemory (now (self .exit)) ⌝ }
+        ensures state { λ _. ⌜ mean (now (self .exit)) ≡ startProgram (mean (now (self .entry))) (channel .0) program ⌝ }
+        ensures memory { λ _. ⌜ now (self .exit) .memory ≡ now (self .entry) .memory ⌝ }
+    {
+        let window = self.state.records[channel.0 as usize].window;
+        self.state.records[channel.0 as usize] = started_record(program, window);
+        self.join_line(program.single, channel);
+    }
+
+    // Reads a program and sets the channel running.
+    pub fn start(&mut self, channel: u32, words: Words) -> Result<(), ChannelFault>
+        requires { ⌜ MoverSound M·HallMemory (now self) ⌝ }
+        ensures sound { λ _. ⌜ MoverSound M·HallMemory (now (self .exit)) ⌝ }
+        ensures answer { λ r. ⌜ r ≡ answered (startRefused (mean (now (self .entry))) channel words) tt ⌝ }
+        ensures state { λ _. ⌜ mean (now (self .exit)) ≡ unlessRefused (startRefused (mean (now (self .entry))) channel words) (mean (now (self .entry))) (startState (mean (now (self .entry))) channel words) ⌝ }
+        ensures memory { λ _. ⌜ now (self .exit) .memory ≡ now (self .entry) .memory ⌝ }
+    {
+        let channel = known_channel(channel)?;
+        let program = Program::read(words)?;
+        let program = store(&program);
+        self.startable(channel, &program)?;
+        self.begin(channel, program);
+        Ok(())
     }
 }

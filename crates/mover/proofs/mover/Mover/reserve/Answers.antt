@@ -10,7 +10,7 @@ pub returns : need.returns
 returns g c =
     let m = mean (c .args .self .now) in
     record {
-      sound = kept-by (g .M·HallMemory) (c .args .self .now) _ (reserveState m) (c .pre) refl (c .pre .singles) (c .pre .blocks) (c .pre .flight) (search needs)
+      sound = kept-by (g .M·HallMemory) (c .args .self .now) _ (reserveState m) (c .pre) refl (record { singles = c .pre .lines .singles; blocks = c .pre .lines .blocks; flight = c .pre .lines .flight }) (search needs)
         (sound-reserve m _ (c .pre .state));
       answer = search needs;
       state = search needs;
