@@ -1,7 +1,6 @@
 -- A new mover is sound, and every call but turn keeps it so.
 use Prim.Native.Nat.{ℕ, zero, suc, _+_, _-_, _≤_, _<_}
-use lib.Dec.{eqb}
-use lib.ListN.{length, getD, set, replicate}
+use lib.ListN.{length, getD, set}
 use mathlib.Core.Bool.{Bool, true, false, cond, _&&_}
 use mathlib.Core.List.{List, [], _∷_, _++_}
 use mathlib.Core.Logic.{_≢_, ⊎-elim}
@@ -9,8 +8,7 @@ use mathlib.Core.Path.{_≡_, refl, sym, ap, subst, _∙_}
 use mir.Val.{boolByte}
 use native.Mathlib.Omega.{arith}
 use Rattle.std.proofs.shelf.Lists.{getD-replicate, length-replicate, length-set}
-use Rattle.std.proofs.shelf.Tests.{cases-bool, cases-eq, cond-both, cond-false, both-ways, ne-eqb, eq-eqb}
-use Rattle.std.proofs.shelf.Ways.{tells}
+use Rattle.std.proofs.shelf.Tests.{cases-bool, cond-both, both-ways}
 use Rattle.std.specs.Options.{mapped}
 use Rattle.std.specs.declared.option.Option.{Option}
 use Rattle.std.specs.declared.option.Option.the-variants.{Some, None}
@@ -21,11 +19,11 @@ use Rattle.sheet.specs.Sheets.{filledTo, filled, count}
 use Rattle.machine.specs.Calls.{emptyWindow, lowestFree, reserveState, releaseState, putState, fillState, started, joinLine, startProgram, stopState}
 use Rattle.machine.specs.Turns.{hasReplies}
 use Rattle.machine.specs.Means.{Mean, Window, cleared, recordOf, withRecord, withQuiet, absent}
-use Rattle.machine.specs.Soundness.{newMean, times, finals, dues, placesDue, stillDue, ChannelSound, ChannelsFit, Sound}
+use Rattle.machine.specs.Soundness.{newMean, times, finals, dues, placesDue, stillDue, Sound}
 use Rattle.machine.specs.declared.record.Record.{Record}
 use Rattle.machine.specs.declared.record.Stored.{Stored}
 use Rattle.machine.proofs.KeptCounts.{none-counted, times-append, times-here, times-other, channels-append}
-use Rattle.machine.proofs.KeptChannels.{Stands, stands, same-stands, channel-from, changed, replaced, new-window}
+use Rattle.machine.proofs.KeptChannels.{Stands, stands, same-stands, channel-from, changed, replaced, remarked}
 
 -- a clear record, of a channel that stands nowhere
 pub clear-stands : (reserved : Bool) (w : Window) → length w ≡ 256 → Stands (cleared reserved w) 0 0 0 []
@@ -63,7 +61,7 @@ sound-new v none = record {
 pub sound-put : (m : Mean) (v : View) (c p w : ℕ) → Sound m v → c < 16 → Sound (putState m c p w) v
 sound-put m v c p w sound low =
     let h = stands m c (sound .channels c low) in
-    replaced m v c _ sound low (new-window (recordOf m c) _ _ _ _ (set (recordOf m c .window) p (Some w)) (length-set _ p (Some w) ∙ h .window) h)
+    replaced m v c _ sound low (remarked (recordOf m c) _ _ _ _ _ _ (set (recordOf m c .window) p (Some w)) (length-set _ p (Some w) ∙ h .window) h)
 
 length-filled : (k : ℕ) (bytes : List ℕ) (window : Window) → length (filledTo k bytes window) ≡ length window
 unfolding filledTo
@@ -73,7 +71,7 @@ length-filled (suc k) bytes window = length-set _ _ _ ∙ length-filled k bytes 
 pub sound-fill : (m : Mean) (v : View) (c : ℕ) (bytes : List ℕ) → Sound m v → c < 16 → Sound (fillState m c bytes) v
 sound-fill m v c bytes sound low =
     let h = stands m c (sound .channels c low) in
-    replaced m v c _ sound low (new-window (recordOf m c) _ _ _ _ (filled bytes (recordOf m c .window)) (length-filled (count bytes) bytes _ ∙ h .window) h)
+    replaced m v c _ sound low (remarked (recordOf m c) _ _ _ _ _ _ (filled bytes (recordOf m c .window)) (length-filled (count bytes) bytes _ ∙ h .window) h)
 
 -- a channel that does not run stands nowhere, and no reply is due
 pub idle : (r : Record) (s b f : ℕ) (ps : List ℕ) → Stands r s b f ps → r .flags .running ≡ false → (s ≡ 0) × (b ≡ 0) × (f ≡ 0) × (ps ≡ [])
@@ -93,7 +91,7 @@ pub sound-release : (m : Mean) (v : View) (c : ℕ) → Sound m v → c < 16 →
 sound-release m v c sound low rests = cleared-idle m v c false (recordOf m c .window) sound low rests (sound .channels c low .window)
 
 -- the lowest free channel is one of them, and free
-abbrev Free : List Record → Option ℕ → Type 0
+abbrev pub Free : List Record → Option ℕ → Type 0
 Free rs None = Unit {0}
 Free rs (Some c) = (c < length rs) × (getD rs c absent .flags .reserved ≡ false)
 
@@ -122,21 +120,8 @@ sound-reserve m v sound = go (lowestFree (m .records)) (lowest-free (m .records)
 
 pub sound-stop : (m : Mean) (v : View) (c : ℕ) → Sound m v → c < 16 → Sound (stopState m c) v
 sound-stop m v c sound low =
-    let h = sound .channels c low in
-    replaced m v c _ sound low (record {
-      window = h .window;
-      placed = h .placed;
-      single-line = h .single-line;
-      block-line = h .block-line;
-      held = h .held;
-      ordered = h .ordered;
-      within = h .within;
-      one-place = h .one-place;
-      landed-sent = h .landed-sent;
-      sent-all = h .sent-all;
-      unsent = h .unsent;
-      due = h .due;
-    })
+    let h = stands m c (sound .channels c low) in
+    replaced m v c _ sound low (remarked (recordOf m c) _ _ _ _ (recordOf m c .flags .error) true (recordOf m c .window) (h .window) h)
 
 pub sound-quiet : (m : Mean) (v : View) (quiet : Bool) → Sound m v → Sound (withQuiet m quiet) v
 sound-quiet m v quiet sound = record {

@@ -3,7 +3,7 @@
 use Prim.Native.Nat.{ℕ, _+_, _-_, _≤_, _<_}
 use lib.ListN.{length, getD, set}
 use mathlib.Core.Bool.{Bool, true, false}
-use mathlib.Core.List.{List, []}
+use mathlib.Core.List.{List}
 use mathlib.Core.Logic.{_≢_, ⊎-elim}
 use mathlib.Core.Path.{_≡_, refl, sym, ap, subst, _∙_}
 use mir.Val.{boolByte}
@@ -12,7 +12,7 @@ use Rattle.std.proofs.shelf.Lists.{getD-set-same, getD-set-other, length-set}
 use Rattle.std.proofs.shelf.Tests.{cases-eq}
 use Rattle.memory.specs.Views.{View}
 use Rattle.program.specs.Pieces.{countUp}
-use Rattle.machine.specs.Means.{Mean, Window, recordOf, withRecord, withWindow, absent}
+use Rattle.machine.specs.Means.{Mean, Window, recordOf, withRecord, absent}
 use Rattle.machine.specs.Soundness.{times, finals, dues, placesDue, stillDue, FinalLast, ChannelsFit, PiecesFit, ChannelSound, Sound}
 use Rattle.machine.specs.declared.record.Record.{Record}
 
@@ -127,9 +127,10 @@ replaced m v c r sound low h =
         tied = sound .tied;
       })
 
--- a window of the same length
-pub new-window : (r : Record) (s b f : ℕ) (ps : List ℕ) (w : Window) → length w ≡ 256 → Stands r s b f ps → Stands (withWindow r w) s b f ps
-new-window r s b f ps w long h = record {
+-- another window of the same length, and other marks of error and stop
+pub remarked : (r : Record) (s b f : ℕ) (ps : List ℕ) (error stop : Bool) (w : Window) → length w ≡ 256 → Stands r s b f ps
+  → Stands (record { flags = record { reserved = r .flags .reserved; running = r .flags .running; error = error; stop = stop }; counts = r .counts; program = r .program; window = w }) s b f ps
+remarked r s b f ps error stop w long h = record {
   window = long;
   placed = h .placed;
   single-line = h .single-line;

@@ -1,22 +1,21 @@
 -- A landing keeps a mover sound.
 use Prim.Native.Nat.{ℕ, zero, suc, _+_, _-_, _≤_, _<_}
 use lib.Dec.{eqb}
-use lib.ListN.{length, set}
+use lib.ListN.{length}
 use mathlib.Core.Bool.{Bool, true, false, cond, not, _&&_}
 use mathlib.Core.List.{List, [], _∷_, _++_}
 use mathlib.Core.Logic.{_≢_, ⊎-elim}
 use mathlib.Core.Path.{_≡_, refl, sym, ap, subst, _∙_}
 use mir.Val.{boolByte}
 use native.Mathlib.Omega.{arith}
-use Rattle.std.proofs.shelf.Lists.{length-set, length-append}
-use Rattle.std.proofs.shelf.Tests.{cases-bool, cond-both, cond-true, cond-false, both-ways, and-parts, and-from, eq-eqb, ne-eqb, eqb-true, eqb-false}
+use Rattle.std.proofs.shelf.Lists.{length-set}
+use Rattle.std.proofs.shelf.Tests.{cases-bool, cond-both, cond-true, cond-false, and-parts, and-from, eq-eqb, ne-eqb, eqb-true, eqb-false}
 use Rattle.std.proofs.shelf.Ways.{tells}
 use Rattle.std.specs.declared.option.Option.{Option}
-use Rattle.std.specs.declared.option.Option.the-variants.{Some, None}
 use Rattle.memory.specs.Views.{View}
 use Rattle.program.specs.Pieces.{countUp}
-use Rattle.machine.specs.Means.{Mean, recordOf, withRecord}
-use Rattle.machine.specs.Soundness.{times, finals, Due, dueFrom, dues, placesDue, stillDue, FinalLast, PiecesFit, ChannelSound, Sound}
+use Rattle.machine.specs.Means.{Mean, recordOf}
+use Rattle.machine.specs.Soundness.{times, finals, Due, dueFrom, dues, placesDue, stillDue, FinalLast, PiecesFit, Sound}
 use Rattle.machine.specs.Turns.{landedRecord, flightAfter, landPiece, hasReplies}
 use Rattle.machine.specs.declared.piece.Piece.{Piece}
 use Rattle.machine.specs.declared.record.Record.{Record}
@@ -131,7 +130,7 @@ landed-stands p reply r s b f g places h count last =
     goes-on runs e = grind (arith, tells)
 
 -- what a flight that is not empty shows: a piece of a channel below 16, a reply in transit, and where that reply lands
-pub record Landing (m : Mean) (v : View) (p : Piece) (ps : List Piece) : Type 0 where
+pub record LandsAt (m : Mean) (v : View) (p : Piece) (ps : List Piece) : Type 0 where
   pub low : p .channel .0 < 16
   pub taken : 0 < length (v .transit)
   pub stands-so : Stands (recordOf m (p .channel .0)) (times (p .channel .0) (m .singles)) (times (p .channel .0) (m .blocks)) (finals (p .channel .0) (p ∷ ps))
@@ -148,7 +147,7 @@ places-here p ps k e = ap (placesDue (p .channel .0)) (dues-before p ps k e) ∙
 places-there : (d : ℕ) (p : Piece) (ps : List Piece) (k : ℕ) → p .due ≡ suc k → d ≢ p .channel .0 → placesDue d (dues (p ∷ ps)) ≡ placesDue d (later p ps k)
 places-there d p ps k e apart = ap (placesDue d) (dues-before p ps k e) ∙ cond-false _ _ _ (ne-eqb (p .channel .0) d (λ same. apart (sym same)))
 
-pub lands-at : (m : Mean) (v : View) (p : Piece) (ps : List Piece) → Sound m v → m .flight ≡ p ∷ ps → Landing m v p ps
+pub lands-at : (m : Mean) (v : View) (p : Piece) (ps : List Piece) → Sound m v → m .flight ≡ p ∷ ps → LandsAt m v p ps
 lands-at m v p ps sound same =
     let fit : PiecesFit (p ∷ ps) = subst PiecesFit same (sound .pieces-fit) in
     let low : p .channel .0 < 16 = fit .0 in

@@ -1,21 +1,21 @@
 -- A service keeps a mover sound.
 use Prim.Native.Nat.{ℕ, zero, suc, _+_, _-_, _*_, _/_, _≤_, _<_, min}
 use lib.Dec.{ltb, leb, eqb}
-use lib.ListN.{length, set}
-use mathlib.Core.Bool.{Bool, true, false, cond, not, _&&_, _||_}
+use lib.ListN.{length}
+use mathlib.Core.Bool.{Bool, true, false, cond, not, _&&_}
 use mathlib.Core.List.{List, [], _∷_, _++_, append-nil}
 use mathlib.Core.Logic.{_≢_, _⊎_, inl, inr, ⊎-elim}
 use mathlib.Core.Path.{_≡_, refl, sym, ap, subst, _∙_}
 use mir.Val.{boolByte}
 use native.Mathlib.Omega.{arith}
 use Rattle.std.proofs.shelf.Lists.{length-append}
-use Rattle.std.proofs.shelf.Tests.{cases-bool, cases-eq, cond-both, cond-true, cond-false, both-ways, and-parts, and-from, and-right, or-parts, or-left, eq-eqb, ne-eqb, eqb-true, eqb-false, ltb-true, lt-leb}
+use Rattle.std.proofs.shelf.Tests.{cases-bool, cond-both, cond-true, cond-false, and-from, and-right, or-parts, or-left, eq-eqb, ne-eqb, eqb-false, ltb-true, lt-leb}
 use Rattle.std.proofs.shelf.Ways.{tells}
 use Rattle.std.specs.declared.option.Option.{Option}
-use Rattle.std.specs.declared.option.Option.the-variants.{Some, None}
+use Rattle.std.specs.declared.option.Option.the-variants.{Some}
 use Rattle.std.specs.declared.result.Result.{Result}
 use Rattle.std.specs.declared.result.Result.the-variants.{Ok, Err}
-use Rattle.memory.specs.Effects.{Sends, refuses, transitAfter}
+use Rattle.memory.specs.Effects.{Sends, refuses}
 use Rattle.memory.specs.Views.{View, room}
 use Rattle.memory.specs.declared.fault.MemoryFault.{MemoryFault}
 use Rattle.memory.specs.declared.fault.MemoryFault.the-variants.{TransitFull}
@@ -24,14 +24,14 @@ use Rattle.numbers.specs.declared.channel.Channel.{Channel}
 use Rattle.operators.specs.Modes.{sending, wantsReply}
 use Rattle.operators.specs.declared.mode.Mode.{Mode}
 use Rattle.operators.specs.declared.mode.Mode.the-variants.{Load, Store, Mp, Sync}
-use Rattle.program.specs.Pieces.{Span, countUp, boundary}
-use Rattle.machine.specs.Means.{Mean, recordOf, withRecord}
-use Rattle.machine.specs.Soundness.{times, finals, Due, dueFrom, dues, placesDue, stillDue, FinalLast, ChannelsFit, PiecesFit, ChannelSound, Sound}
+use Rattle.program.specs.Pieces.{countUp}
+use Rattle.machine.specs.Means.{Mean, recordOf}
+use Rattle.machine.specs.Soundness.{times, finals, Due, dueFrom, dues, placesDue, stillDue, FinalLast, ChannelsFit, PiecesFit, Sound}
 use Rattle.machine.specs.Turns.{chosen, serviced, nextPiece, pieceLength, final, requestAt, requestsFrom, requests, hasReplies, servedRecord, rest, serve, SentAll}
 use Rattle.machine.specs.declared.piece.Piece.{Piece}
 use Rattle.machine.specs.declared.record.Record.{Record}
-use Rattle.machine.proofs.KeptCounts.{none-counted, count-split, times-append, times-here, times-other, finals-append, channels-append, pieces-append, dues-append, places-append, places-own, places-other, length-due, few-due}
-use Rattle.machine.proofs.KeptChannels.{Stands, stands, same-stands, changed}
+use Rattle.machine.proofs.KeptCounts.{count-split, times-append, times-here, times-other, finals-append, channels-append, pieces-append, dues-append, places-append, places-own, places-other, length-due, few-due}
+use Rattle.machine.proofs.KeptChannels.{Stands, stands, changed}
 
 -- the next piece of a channel that waits has one to eight places, the first of them the first unsent, the last of them within
 pub record NextPiece (r : Record) : Type 0 where
@@ -383,3 +383,13 @@ serves m v c sound picked =
     known low few waits =
         let before = stands m (c .0) (sound .channels (c .0) low) in
         record { low = low; room = few; waits = waits; runs = waits-runs _ _ _ _ _ before waits .0; piece = piece-nonempty _ _ _ _ _ before waits }
+
+pub waiting-piece : (m : Mean) (v : View) (c : ℕ) → Sound m v → c < 16 → 0 < times c (m .singles) + times c (m .blocks) → NextPiece (recordOf m c)
+waiting-piece m v c sound low waits = piece-nonempty _ _ _ _ _ (stands m c (sound .channels c low)) waits
+
+-- after j requests of a piece the next is not refused
+pub next-sent : (m : Mean) (v u : View) (r : Record) (j p : ℕ) (q : Request) → Sound m v → length (m .flight) < 4 → j < 8 → SentAll (requestsFrom r j p) v u → refuses q u ≡ false
+next-sent m v u r j p q sound few early sent =
+    let so-far = sent-transit r j p v u sent in
+    let most : cond (hasReplies (r .program .mode)) j 0 ≤ j = cond-both (hasReplies (r .program .mode)) j 0 (λ (n : ℕ). n ≤ j) (λ _. omega arith) (λ _. omega arith) in
+    never-refused m v u j q sound few early (omega (arith, so-far, most))

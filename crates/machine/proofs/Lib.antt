@@ -4,6 +4,7 @@ pub mod KeptCounts
 pub mod KeptLanding
 pub mod KeptLines
 pub mod KeptService
+pub mod KeptSteps
 pub mod Linked
 pub mod Moved
 pub mod Summing

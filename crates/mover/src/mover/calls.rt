@@ -206,9 +206,13 @@ impl<M: HallMemory> Mover<M> {
     {
         let channel = known_channel(channel)?;
         let program = Program::read(words)?;
-        let program = store(&program);
-        self.startable(channel, &program)?;
-        self.begin(channel, program);
-        Ok(())
+        let numbers = store(&program);
+        match self.startable(channel, &numbers) {
+            Ok(()) => {
+                self.begin(channel, numbers);
+                Ok(())
+            }
+            Err(fault) => Err(fault),
+        }
     }
 }
