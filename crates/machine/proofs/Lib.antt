@@ -16,3 +16,10 @@ pub mod TraceSends
 pub mod TraceService
 pub mod TraceStatus
 pub mod TraceTurn
+pub mod TurnCalls
+pub mod TurnCounts
+pub mod TurnEnds
+pub mod TurnHalves
+pub mod TurnMeasure
+pub mod TurnRuns
+pub mod TurnServices

@@ -1,4 +1,5 @@
 pub mod Finding
 pub mod Fresh
 pub mod Keeping
+pub mod Sending
 pub mod Starting

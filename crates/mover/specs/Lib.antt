@@ -1,4 +1,5 @@
 pub mod Checks
+pub mod Halves
 pub mod Making
 pub mod Meaning
 pub mod Status

@@ -1,5 +1,6 @@
 pub mod calls;
 pub mod making;
+pub mod turning;
 
 use machine::state::State;
 

@@ -3,6 +3,7 @@ use Prim.Native.Nat.{ℕ, _≤_, _<_}
 use mathlib.Core.Path.{_≡_, refl, ap}
 use native.Mathlib.Bridge.{le-prop}
 use native.Mathlib.Decide.{decLe}
+use native.Mathlib.Nat.{lt-of-not-le}
 use native.Mathlib.Omega.{arith}
 use Rattle.std.specs.declared.option.Option.the-variants.{Some, None}
 use Rattle.numbers.specs.declared.place.Place.{Place}
@@ -33,3 +34,12 @@ range-of first last r = go (decLe (first .0) (last .0))
     go : (d : Dec (first .0 ≤ last .0)) → ifOrdered first last d ≡ Some r → (r .first ≡ first) × (r .last ≡ last)
     go (yes p) e = (cc, cc)
     go (no n) e = absurd (let z : _≡_ {A = ℕ} 0 1 = cc in omega arith)
+
+-- there is none only where the first place lies above the last
+pub range-backward : (first last : Place) → None ≡ rangeOf first last → last .0 < first .0
+unfolding rangeOf
+range-backward first last = go (decLe (first .0) (last .0))
+  where
+    go : (d : Dec (first .0 ≤ last .0)) → None ≡ ifOrdered first last d → last .0 < first .0
+    go (yes p) e = absurd (let z : _≡_ {A = ℕ} 0 1 = cc in omega arith)
+    go (no n) e = lt-of-not-le n
