@@ -20,7 +20,7 @@ ghost use mathlib.Core.List.{_∷_};
 ghost use mathlib.Core.Path.{_≡_};
 ghost use Rattle.machine.specs.Means.{recordOf};
 ghost use Rattle.machine.specs.Turns.{Turns, landPiece, rest, serviced, serve, nextPiece};
-ghost use Rattle.mover.specs.Halves.{Lands, Serves};
+ghost use Rattle.mover.specs.Halves.{Lands, Serves, chooseOf, leftLine};
 ghost use Rattle.mover.specs.Meaning.{mean, LinesSound, MoverSound};
 ghost use Rattle.program.specs.Pieces.{span};
 ghost use Rattle.std.specs.declared.option.Option.the-variants.{Some};
@@ -51,5 +51,125 @@ impl<M: HallMemory> Mover<M> {
                 last: piece.last,
             });
         }
+    }
+
+    // Landing: take is called once if a piece is in flight.
+    fn land(&mut self) -> Landing
+        requires { ⌜ MoverSound M·HallMemory (now self) ⌝ }
+        ensures sound { λ _. ⌜ MoverSound M·HallMemory (now (self .exit)) ⌝ }
+        ensures lands { λ r. ⌜ Lands r (mean (now (self .entry))) (mean (now (self .exit))) (M·HallMemory .view (now (self .entry) .memory)) (M·HallMemory .view (now (self .exit) .memory)) ⌝ }
+    {
+        let Some(piece) = self.state.flight.first() else {
+            return Landing::Nothing;
+        };
+        match self.memory.take() {
+            Taken::Nothing => unreachable(),
+            Taken::NotYet => Landing::NotYet,
+            Taken::Reply(reply) => {
+                self.land_oldest(piece, reply);
+                Landing::Reply(piece.channel, piece.next, reply.is_some())
+            }
+        }
+    }
+
+    // The channel to serve: a single goes first, unless the previous service was of a single and a block waits.
+    fn next_channel(&self) -> Option<Channel>
+        requires { ⌜ LinesSound (now self .state) ⌝ }
+        ensures { λ r. ⌜ r ≡ serviced (mean (now (self .entry))) ⌝ }
+    {
+        if self.state.flight.len() >= 4 {
+            return None;
+        }
+        choose(self.state.singles.first(), self.state.blocks.first(), self.state.after_single)
+    }
+
+    // The channel that was served leaves its line; a block whose piece was not final goes to its end.
+    fn leave_line(&mut self, channel: Channel, single: bool, last: bool)
+        requires { ⌜ LinesSound (now self .state) ⌝ }
+        ensures lines { λ _. ⌜ LinesSound (now (self .exit) .state) ⌝ }
+        ensures state { λ _. ⌜ mean (now (self .exit)) ≡ leftLine (mean (now (self .entry))) channel single last ⌝ }
+        ensures memory { λ _. ⌜ now (self .exit) .memory ≡ now (self .entry) .memory ⌝ }
+    {
+        if single {
+            let _ = self.state.singles.pop();
+        } else {
+            let _ = self.state.blocks.pop();
+            if !last {
+                self.state.blocks.push(channel);
+            }
+        }
+    }
+
+    // The state after a piece was sent.
+    fn note_service(&mut self, channel: Channel, piece: PlaceRange)
+        requires lines { ⌜ LinesSound (now self .state) ⌝ }
+        requires wide { ⌜ length (now self .state .records) ≡ 16 ⌝ }
+        requires low { ⌜ channel .0 < 16 ⌝ }
+        requires room { ⌜ length (mean (now self) .flight) < 4 ⌝ }
+        requires piece { ⌜ span piece ≡ nextPiece (recordOf (mean (now self)) (channel .0)) ⌝ }
+        requires few { ⌜ recordOf (mean (now self)) (channel .0) .counts .sent < 256 ⌝ }
+        ensures lines { λ _. ⌜ LinesSound (now (self .exit) .state) ⌝ }
+        ensures state { λ _. ⌜ mean (now (self .exit)) ≡ serve (mean (now (self .entry))) channel (recordOf (mean (now (self .entry))) (channel .0)) ⌝ }
+        ensures memory { λ _. ⌜ now (self .exit) .memory ≡ now (self .entry) .memory ⌝ }
+    {
+        let record = self.state.records[channel.0 as usize];
+        let last = is_final(&record, piece);
+        served(&mut self.state.records[channel.0 as usize], piece);
+        self.leave_line(channel, record.program.single, last);
+        self.state.after_single = record.program.single;
+        if has_replies(record.program.mode) {
+            self.state.flight.push(Piece {
+                channel,
+                next: piece.first(),
+                due: piece.last().0 - piece.first().0 + 1,
+                last,
+            });
+        }
+    }
+
+    // Service: one piece of one channel, if fewer than four pieces are in flight and a channel waits.
+    fn serve_next(&mut self) -> Service
+        requires { ⌜ MoverSound M·HallMemory (now self) ⌝ }
+        ensures sound { λ _. ⌜ MoverSound M·HallMemory (now (self .exit)) ⌝ }
+        ensures serves { λ r. ⌜ Serves r (mean (now (self .entry))) (mean (now (self .exit))) (M·HallMemory .view (now (self .entry) .memory)) (M·HallMemory .view (now (self .exit) .memory)) ⌝ }
+    {
+        let Some(channel) = self.next_channel() else {
+            return Service::Nothing;
+        };
+        let record = self.state.records[channel.0 as usize];
+        let piece = next_piece(&record);
+        send_piece(&mut self.memory, &record, piece);
+        self.note_service(channel, piece);
+        Service::Sent(channel, piece.last().0 - piece.first().0 + 1)
+    }
+
+    // Landing, and then service.
+    pub fn turn(&mut self) -> Turned
+        requires { ⌜ MoverSound M·HallMemory (now self) ⌝ }
+        ensures sound { λ _. ⌜ MoverSound M·HallMemory (now (self .exit)) ⌝ }
+        ensures turns { λ r. ⌜ Turns r (mean (now (self .entry))) (mean (now (self .exit))) (M·HallMemory .view (now (self .entry) .memory)) (M·HallMemory .view (now (self .exit) .memory)) ⌝ }
+    {
+        let landing = self.land();
+        let service = self.serve_next();
+        Turned { landing, service }
+    }
+}
+
+// Of the first single and the first block that wait, the one to serve.
+fn choose(single: Option<Channel>, block: Option<Channel>, after_single: bool) -> Option<Channel>
+    ensures { λ r. ⌜ r ≡ chooseOf single block «after_single» ⌝ }
+{
+    match single {
+        None => block,
+        Some(single) => match block {
+            None => Some(single),
+            Some(block) => {
+                if after_single {
+                    Some(block)
+                } else {
+                    Some(single)
+                }
+            }
+        },
     }
 }
