@@ -5,6 +5,7 @@ pub mod KeptLanding
 pub mod KeptLines
 pub mod KeptService
 pub mod KeptSteps
+pub mod Lawful
 pub mod Linked
 pub mod Moved
 pub mod Summing

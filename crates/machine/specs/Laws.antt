@@ -9,14 +9,16 @@ use Rattle.std.specs.declared.option.Option.{Option}
 use Rattle.std.specs.declared.option.Option.the-variants.{Some, None}
 use Rattle.std.specs.declared.result.Result.{Result}
 use Rattle.std.specs.declared.result.Result.the-variants.{Ok, Err}
-use Rattle.memory.specs.Views.{longest}
+use Rattle.memory.specs.Views.{View, longest}
 use Rattle.operators.specs.Choices.{joinBy}
 use Rattle.operators.specs.Modes.{sending, wordAfter}
 use Rattle.operators.specs.declared.choice.Choice.{Choice}
 use Rattle.operators.specs.declared.mode.Mode.{Mode}
 use Rattle.operators.specs.declared.mode.Mode.the-variants.{Load, Store, Mp, Sync}
 use Rattle.machine.specs.Histories.{nowSeen, runs, landedTold, sentTold, starts, Starts, Begun, begun, sentCount, landedCount, turnsSince, stopped, touched, cellAt, Names, Clashes}
-use Rattle.machine.specs.Steps.{Seen, Event, History}
+use Rattle.machine.specs.Means.{Mean}
+use Rattle.machine.specs.Soundness.{newMean}
+use Rattle.machine.specs.Steps.{Call, Step, Seen, seen, Event, History, Run}
 use Rattle.machine.specs.Turns.{hasReplies}
 use Rattle.machine.specs.declared.answer.Answer.{Answer}
 use Rattle.machine.specs.declared.answer.Answer.the-variants as answer
@@ -144,3 +146,15 @@ pub record Law (opening : Seen) (h : History) : Type 0 where
   pub traced : Traced opening h
   pub summed : Summed opening h
   pub bounded : Bounded opening h
+
+-- What every call says of every run that it goes on from: the step that it makes, the longer run, and the law of that run.
+pub record Keeps (call : Call) (answer : Answer) (before : Mean) (was : View) (after : Mean) (is : View) : Type 0 where
+  pub step : Step call answer before was after is
+  pub extends : (cells : View) (h : History) → Run newMean cells h before was → Run newMean cells (record { call = call; answer = answer; after = seen after is } ∷ h) after is
+  pub law : (cells : View) (h : History) → cells .transit ≡ [] → Run newMean cells h before was
+    → Law (seen newMean cells) (record { call = call; answer = answer; after = seen after is } ∷ h)
+
+-- What a new mover says: the empty run, and its law.
+pub record Opens (m : Mean) (v : View) : Type 0 where
+  pub run : Run newMean v [] m v
+  pub law : Law (seen newMean v) []

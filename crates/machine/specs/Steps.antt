@@ -36,6 +36,11 @@ abbrev pub doneUnless : Refused → Answer
 doneUnless None = answer.Done
 doneUnless (Some f) = answer.Refused f
 
+-- what a call without a value answers
+abbrev pub doneOr : Result (Unit {0}) ChannelFault → Answer
+doneOr (Ok _) = answer.Done
+doneOr (Err f) = answer.Refused f
+
 abbrev pub wordOr : Result ℕ ChannelFault → Answer
 wordOr (Ok w) = answer.Word w
 wordOr (Err f) = answer.Refused f

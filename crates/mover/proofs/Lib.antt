@@ -6,3 +6,4 @@ pub mod Next
 pub mod Oldest
 pub mod Sending
 pub mod Starting
+pub mod Stepping

@@ -1,6 +1,7 @@
 pub mod calls;
 pub mod making;
-pub mod turning;
+mod steps;
+mod turning;
 
 use machine::state::State;
 

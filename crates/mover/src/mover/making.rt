@@ -8,6 +8,7 @@ use numbers::channel::Channel;
 use numbers::place::Place;
 use queue::line::Queue;
 ghost use mathlib.Core.Path.{_≡_};
+ghost use Rattle.machine.specs.Laws.{Opens};
 ghost use Rattle.machine.specs.Soundness.{newMean};
 ghost use Rattle.mover.specs.Making.{moverCheck};
 ghost use Rattle.mover.specs.Meaning.{mean, MoverSound};
@@ -31,6 +32,7 @@ impl<M: HallMemory> Mover<M> {
         requires checked { ⌜ moverCheck (M·HallMemory .view memory) ≡ Ok tt ⌝ }
         ensures sound { λ r. ⌜ MoverSound M·HallMemory r ⌝ }
         ensures state { λ r. ⌜ mean r ≡ newMean ⌝ }
+        ensures opens { λ r. ⌜ Opens (mean r) (M·HallMemory .view (r .memory)) ⌝ }
         ensures memory { λ r. ⌜ r .memory ≡ memory ⌝ }
     {
         let records = [empty_record(false); 16];

@@ -144,7 +144,7 @@ impl<M: HallMemory> Mover<M> {
     }
 
     // Landing, and then service.
-    pub fn turn(&mut self) -> Turned
+    pub(super) fn turn_step(&mut self) -> Turned
         requires { ⌜ MoverSound M·HallMemory (now self) ⌝ }
         ensures sound { λ _. ⌜ MoverSound M·HallMemory (now (self .exit)) ⌝ }
         ensures turns { λ r. ⌜ Turns r (mean (now (self .entry))) (mean (now (self .exit))) (M·HallMemory .view (now (self .entry) .memory)) (M·HallMemory .view (now (self .exit) .memory)) ⌝ }

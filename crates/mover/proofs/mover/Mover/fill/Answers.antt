@@ -1,18 +1,13 @@
-use mathlib.Core.Path.{refl}
-use borrow.Author.Needs.{needs}
-use Rattle.machine.specs.Calls.{fillState}
-use Rattle.machine.proofs.KeptCalls.{sound-fill}
-use Rattle.mover.specs.Meaning.{mean}
-use Rattle.mover.proofs.Keeping.{kept-by}
+use mathlib.Core.Path.{ap}
+use Rattle.machine.specs.Steps as call
+use Rattle.machine.proofs.Lawful.{keeps}
+use Rattle.mover.proofs.Stepping.{done-is}
 use Rattle.mover.proofs.mover.Mover.fill.Needs as need
 
 pub returns : need.returns
 returns g c =
-    let m = mean (c .args .self .now) in
+    let s = c .fill-step .ensures in
     record {
-      sound = kept-by (g .M·HallMemory) (c .args .self .now) _ (fillState m (c .args .channel) (c .args .bytes .now)) (c .pre) refl (record { singles = c .pre .lines .singles; blocks = c .pre .lines .blocks; flight = c .pre .lines .flight }) (search needs)
-        (sound-fill m _ (c .args .channel) (c .args .bytes .now) (c .pre .state) (search needs));
-      answer = search needs;
-      state = search needs;
-      memory = search needs;
+      sound = s .sound;
+      keeps = keeps (call.fill (c .args .channel) (c .args .bytes .now)) _ _ _ _ _ (done-is _ _ (s .answer), s .state, ap (g .M·HallMemory .view) (s .memory));
     }

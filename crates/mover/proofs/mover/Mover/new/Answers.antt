@@ -3,6 +3,7 @@ use borrow.Author.Needs.{needs}
 use Rattle.machine.specs.Means.{Mean}
 use Rattle.machine.specs.Soundness.{Sound, newMean}
 use Rattle.machine.proofs.KeptCalls.{sound-new}
+use Rattle.machine.proofs.Lawful.{opens}
 use Rattle.mover.proofs.Fresh.{new-mean, idle-memory}
 use Rattle.mover.proofs.mover.Mover.new.Needs as need
 
@@ -17,5 +18,6 @@ returns g c =
         state = subst (λ (m : Mean). Sound m view) (sym state) (sound-new view (idle-memory view (c .pre .checked)));
       };
       state = state;
+      opens = opens _ view state (idle-memory view (c .pre .checked));
       memory = search needs;
     }

@@ -1,18 +1,9 @@
-use mathlib.Core.Path.{refl}
-use borrow.Author.Needs.{needs}
-use Rattle.machine.specs.Calls.{reserveState}
-use Rattle.machine.proofs.KeptCalls.{sound-reserve}
-use Rattle.mover.specs.Meaning.{mean}
-use Rattle.mover.proofs.Keeping.{kept-by}
+use mathlib.Core.Path.{ap}
+use Rattle.machine.specs.Steps as call
+use Rattle.machine.proofs.Lawful.{keeps}
 use Rattle.mover.proofs.mover.Mover.reserve.Needs as need
 
 pub returns : need.returns
 returns g c =
-    let m = mean (c .args .self .now) in
-    record {
-      sound = kept-by (g .M·HallMemory) (c .args .self .now) _ (reserveState m) (c .pre) refl (record { singles = c .pre .lines .singles; blocks = c .pre .lines .blocks; flight = c .pre .lines .flight }) (search needs)
-        (sound-reserve m _ (c .pre .state));
-      answer = search needs;
-      state = search needs;
-      memory = search needs;
-    }
+    let s = c .reserve-step .ensures in
+    record { sound = s .sound; keeps = keeps call.reserve _ _ _ _ _ (ap call.givenOr (s .answer), s .state, ap (g .M·HallMemory .view) (s .memory)) }

@@ -1,10 +1,7 @@
-use borrow.Author.Needs.{needs}
-use native.Mathlib.Omega.{arith}
-use Prim.Native.Nat.{_<_}
+use mathlib.Core.Path.{refl, ap}
+use Rattle.machine.specs.Steps as call
+use Rattle.machine.proofs.Lawful.{keeps}
 use Rattle.mover.proofs.mover.Mover.status.Needs as need
 
-pub status-word-requires : need.status-word-requires
-status-word-requires g c κs =
-    let low : c .in-Continue-channel .channel .0 < 16 = search needs in
-    let h = c .pre .state .channels (c .in-Continue-channel .channel .0) low in
-    record { free = search needs; sent = omega (arith, h .sent-all, h .ordered, h .within); landed = omega (arith, h .landed-sent, h .sent-all, h .ordered, h .within) }
+pub returns : need.returns
+returns g c = keeps (call.status (c .args .channel)) _ _ _ _ _ (ap call.wordOr (c .status-step .ensures), refl, refl)
