@@ -10,6 +10,10 @@ use Rattle.mover.specs.declared.mover.Mover.{Mover}
 abbrev pub mean : {M : Type 0} → Mover M → Mean
 mean s = meanOf (s .state)
 
+-- the meaning of the hall memory below
+abbrev pub hallView : {M : Type 0} → Ghosts M → Mover M → View
+hallView hall s = hall .view (s .memory)
+
 pub record LinesSound (s : State) : Type 0 where
   pub singles : queue.Sound (s .singles)
   pub blocks : queue.Sound (s .blocks)

@@ -1,0 +1,3 @@
+// Whole runs: a list of calls carried out on a new mover.
+pub mod call;
+pub mod run;
