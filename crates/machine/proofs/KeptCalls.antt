@@ -49,7 +49,7 @@ pub sound-new : (v : View) → v .transit ≡ [] → Sound newMean v
 sound-new v none = record {
   wide = length-replicate 16 (cleared false emptyWindow);
   channels = λ c low. channel-from newMean c (cleared false emptyWindow) 0 0 0 [] (getD-replicate 16 c (cleared false emptyWindow) absent low) refl refl refl refl
-    (clear-stands false emptyWindow empty-long);
+      (clear-stands false emptyWindow empty-long);
   singles-fit = tt;
   blocks-fit = tt;
   pieces-fit = tt;
@@ -81,11 +81,11 @@ idle r s b f ps h rests =
     (omega arith, omega arith, omega arith, h .due ∙ ap (λ (n : ℕ). countUp n (r .program .first + r .counts .landed)) due ∙ sym (none-counted _))
 
 cleared-idle : (m : Mean) (v : View) (c : ℕ) (reserved : Bool) (w : Window) → Sound m v → c < 16 → recordOf m c .flags .running ≡ false → length w ≡ 256
-  → Sound (withRecord m c (cleared reserved w)) v
+    → Sound (withRecord m c (cleared reserved w)) v
 cleared-idle m v c reserved w sound low rests long =
     let at = idle _ _ _ _ _ (stands m c (sound .channels c low)) rests in
     replaced m v c (cleared reserved w) sound low
-      (same-stands _ (cleared reserved w) _ _ _ 0 0 0 _ [] refl (at .0) (at .1) (at .2) (at .3) (clear-stands reserved w long))
+    (same-stands _ (cleared reserved w) _ _ _ 0 0 0 _ [] refl (at .0) (at .1) (at .2) (at .3) (clear-stands reserved w long))
 
 pub sound-release : (m : Mean) (v : View) (c : ℕ) → Sound m v → c < 16 → recordOf m c .flags .running ≡ false → Sound (releaseState m c) v
 sound-release m v c sound low rests = cleared-idle m v c false (recordOf m c .window) sound low rests (sound .channels c low .window)
@@ -137,7 +137,7 @@ sound-quiet m v quiet sound = record {
 
 -- a channel just started stands once in the line of its kind
 started-stands : (p : Stored) (w : Window) (s b : ℕ) → length w ≡ 256 → s + b ≡ 1 → (0 < s → p .single ≡ true) → (0 < b → p .single ≡ false)
-  → p .first ≤ p .last → p .last < 256 → (p .single ≡ true → p .first ≡ p .last) → Stands (started p w) s b 0 []
+    → p .first ≤ p .last → p .last < 256 → (p .single ≡ true → p .first ≡ p .last) → Stands (started p w) s b 0 []
 started-stands p w s b long once singles blocks ordered within one-place =
     let none : stillDue (started p w) ≡ 0 = cond-both (hasReplies (p .mode)) (0 - 0) 0 (λ (n : ℕ). n ≡ 0) (λ _. refl) (λ _. refl) in
     record {
@@ -156,42 +156,46 @@ started-stands p w s b long once singles blocks ordered within one-place =
     }
 
 pub sound-start : (m : Mean) (v : View) (c : ℕ) (p : Stored) → Sound m v → c < 16 → recordOf m c .flags .running ≡ false → p .first ≤ p .last → p .last < 256
-  → (p .single ≡ true → p .first ≡ p .last) → Sound (startProgram m c p) v
+    → (p .single ≡ true → p .first ≡ p .last) → Sound (startProgram m c p) v
 sound-start m v c p sound low rests ordered within one-place =
     ⊎-elim (λ single. subst (λ (b : Bool). Sound (joinLine b c (withRecord m c (started p (recordOf m c .window)))) v) (sym single) (to-singles single))
-      (λ block. subst (λ (b : Bool). Sound (joinLine b c (withRecord m c (started p (recordOf m c .window)))) v) (sym block) (to-blocks block)) (cases-bool (p .single))
+    (λ block. subst (λ (b : Bool). Sound (joinLine b c (withRecord m c (started p (recordOf m c .window)))) v) (sym block) (to-blocks block)) (cases-bool (p .single))
   where
     at : (times c (m .singles) ≡ 0) × (times c (m .blocks) ≡ 0) × (finals c (m .flight) ≡ 0) × (placesDue c (dues (m .flight)) ≡ [])
     at = idle _ _ _ _ _ (stands m c (sound .channels c low)) rests
+
     once : (l : List Channel) → times c l ≡ 0 → times c (l ++ record { 0 = c } ∷ []) ≡ 1
     once l none = omega (arith, times-append c l (record { 0 = c } ∷ []), times-here c (record { 0 = c }) refl)
+
     apart : (l : List Channel) (d : ℕ) → d ≢ c → times d (l ++ record { 0 = c } ∷ []) ≡ times d l
     apart l d h = omega (arith, times-append d l (record { 0 = c } ∷ []), times-other d (record { 0 = c }) (λ e. h (sym e)))
+
     to-singles : p .single ≡ true → Sound (joinLine true c (withRecord m c (started p (recordOf m c .window)))) v
     to-singles single =
         changed m (joinLine true c (withRecord m c (started p (recordOf m c .window)))) v v c (started p (recordOf m c .window)) 1 0 0 [] sound low refl
-          (once (m .singles) (at .0)) (at .1) (at .2) (at .3)
-          (started-stands p _ 1 0 (sound .channels c low .window) refl (λ _. single) (λ h. absurd (omega arith)) ordered within one-place)
-          (λ d h. record { singles = apart (m .singles) d h; blocks = refl; finals = refl; places = refl })
-          (record {
-            singles-fit = channels-append (m .singles) _ (sound .singles-fit) (low, tt);
-            blocks-fit = sound .blocks-fit;
-            pieces-fit = sound .pieces-fit;
-            few = sound .few;
-            finals-last = sound .finals-last;
-            tied = sound .tied;
-          })
+        (once (m .singles) (at .0)) (at .1) (at .2) (at .3)
+        (started-stands p _ 1 0 (sound .channels c low .window) refl (λ _. single) (λ h. absurd (omega arith)) ordered within one-place)
+        (λ d h. record { singles = apart (m .singles) d h; blocks = refl; finals = refl; places = refl })
+        (record {
+          singles-fit = channels-append (m .singles) _ (sound .singles-fit) (low, tt);
+          blocks-fit = sound .blocks-fit;
+          pieces-fit = sound .pieces-fit;
+          few = sound .few;
+          finals-last = sound .finals-last;
+          tied = sound .tied;
+        })
+
     to-blocks : p .single ≡ false → Sound (joinLine false c (withRecord m c (started p (recordOf m c .window)))) v
     to-blocks block =
         changed m (joinLine false c (withRecord m c (started p (recordOf m c .window)))) v v c (started p (recordOf m c .window)) 0 1 0 [] sound low refl
-          (at .0) (once (m .blocks) (at .1)) (at .2) (at .3)
-          (started-stands p _ 0 1 (sound .channels c low .window) refl (λ h. absurd (omega arith)) (λ _. block) ordered within one-place)
-          (λ d h. record { singles = refl; blocks = apart (m .blocks) d h; finals = refl; places = refl })
-          (record {
-            singles-fit = sound .singles-fit;
-            blocks-fit = channels-append (m .blocks) _ (sound .blocks-fit) (low, tt);
-            pieces-fit = sound .pieces-fit;
-            few = sound .few;
-            finals-last = sound .finals-last;
-            tied = sound .tied;
-          })
+        (at .0) (once (m .blocks) (at .1)) (at .2) (at .3)
+        (started-stands p _ 0 1 (sound .channels c low .window) refl (λ h. absurd (omega arith)) (λ _. block) ordered within one-place)
+        (λ d h. record { singles = refl; blocks = apart (m .blocks) d h; finals = refl; places = refl })
+        (record {
+          singles-fit = sound .singles-fit;
+          blocks-fit = channels-append (m .blocks) _ (sound .blocks-fit) (low, tt);
+          pieces-fit = sound .pieces-fit;
+          few = sound .few;
+          finals-last = sound .finals-last;
+          tied = sound .tied;
+        })

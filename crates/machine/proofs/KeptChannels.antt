@@ -68,12 +68,12 @@ channel-sound m c h = record {
 pub same-stands : (q r : Record) (t c g s b f : ℕ) (qs ps : List ℕ) → q ≡ r → t ≡ s → c ≡ b → g ≡ f → qs ≡ ps → Stands r s b f ps → Stands q t c g qs
 same-stands q r t c g s b f qs ps er es eb ef ep h =
     subst (λ (x : Record). Stands x t c g qs) (sym er)
-      (subst (λ (x : ℕ). Stands r x c g qs) (sym es)
-        (subst (λ (x : ℕ). Stands r s x g qs) (sym eb)
-          (subst (λ (x : ℕ). Stands r s b x qs) (sym ef) (subst (λ (x : List ℕ). Stands r s b f x) (sym ep) h))))
+    (subst (λ (x : ℕ). Stands r x c g qs) (sym es)
+    (subst (λ (x : ℕ). Stands r s x g qs) (sym eb)
+    (subst (λ (x : ℕ). Stands r s b x qs) (sym ef) (subst (λ (x : List ℕ). Stands r s b f x) (sym ep) h))))
 
 pub channel-from : (m : Mean) (c : ℕ) (r : Record) (s b f : ℕ) (ps : List ℕ) → recordOf m c ≡ r → times c (m .singles) ≡ s → times c (m .blocks) ≡ b
-  → finals c (m .flight) ≡ f → placesDue c (dues (m .flight)) ≡ ps → Stands r s b f ps → ChannelSound m c
+    → finals c (m .flight) ≡ f → placesDue c (dues (m .flight)) ≡ ps → Stands r s b f ps → ChannelSound m c
 channel-from m c r s b f ps er es eb ef ep h = channel-sound m c (same-stands _ r _ _ _ s b f _ ps er es eb ef ep h)
 
 -- where a channel stands is the same in both
@@ -94,18 +94,18 @@ pub record Whole (m : Mean) (v : View) : Type 0 where
 
 -- one channel changed, and the others stand as they did
 pub changed : (m n : Mean) (v w : View) (c : ℕ) (r : Record) (s b f : ℕ) (ps : List ℕ) → Sound m v → c < 16 → n .records ≡ set (m .records) c r
-  → times c (n .singles) ≡ s → times c (n .blocks) ≡ b → finals c (n .flight) ≡ f → placesDue c (dues (n .flight)) ≡ ps → Stands r s b f ps
-  → ((d : ℕ) → d ≢ c → Alike m n d) → Whole n w → Sound n w
+    → times c (n .singles) ≡ s → times c (n .blocks) ≡ b → finals c (n .flight) ≡ f → placesDue c (dues (n .flight)) ≡ ps → Stands r s b f ps
+    → ((d : ℕ) → d ≢ c → Alike m n d) → Whole n w → Sound n w
 changed m n v w c r s b f ps sound low er es eb ef ep h others whole = record {
   wide = ap length er ∙ length-set (m .records) c r ∙ sound .wide;
   channels = λ d near.
       ⊎-elim
-        (λ same. subst (ChannelSound n) (sym same)
-          (channel-from n c r s b f ps (ap (λ (l : List Record). getD l c absent) er ∙ getD-set-same (m .records) c r absent (omega (arith, sound .wide))) es eb ef ep h))
-        (λ apart. let k = others d apart in
-          channel-from n d (recordOf m d) _ _ _ _ (ap (λ (l : List Record). getD l d absent) er ∙ getD-set-other (m .records) c d r absent apart)
-            (k .singles) (k .blocks) (k .finals) (k .places) (stands m d (sound .channels d near)))
-        (cases-eq d c);
+      (λ same. subst (ChannelSound n) (sym same)
+      (channel-from n c r s b f ps (ap (λ (l : List Record). getD l c absent) er ∙ getD-set-same (m .records) c r absent (omega (arith, sound .wide))) es eb ef ep h))
+      (λ apart. let k = others d apart in
+      channel-from n d (recordOf m d) _ _ _ _ (ap (λ (l : List Record). getD l d absent) er ∙ getD-set-other (m .records) c d r absent apart)
+      (k .singles) (k .blocks) (k .finals) (k .places) (stands m d (sound .channels d near)))
+      (cases-eq d c);
   singles-fit = whole .singles-fit;
   blocks-fit = whole .blocks-fit;
   pieces-fit = whole .pieces-fit;
@@ -115,21 +115,21 @@ changed m n v w c r s b f ps sound low er es eb ef ep h others whole = record {
 }
 
 pub replaced : (m : Mean) (v : View) (c : ℕ) (r : Record) → Sound m v → c < 16
-  → Stands r (times c (m .singles)) (times c (m .blocks)) (finals c (m .flight)) (placesDue c (dues (m .flight))) → Sound (withRecord m c r) v
+    → Stands r (times c (m .singles)) (times c (m .blocks)) (finals c (m .flight)) (placesDue c (dues (m .flight))) → Sound (withRecord m c r) v
 replaced m v c r sound low h =
     changed m (withRecord m c r) v v c r _ _ _ _ sound low refl refl refl refl refl h (λ d apart. record { singles = refl; blocks = refl; finals = refl; places = refl })
-      (record {
-        singles-fit = sound .singles-fit;
-        blocks-fit = sound .blocks-fit;
-        pieces-fit = sound .pieces-fit;
-        few = sound .few;
-        finals-last = sound .finals-last;
-        tied = sound .tied;
-      })
+    (record {
+      singles-fit = sound .singles-fit;
+      blocks-fit = sound .blocks-fit;
+      pieces-fit = sound .pieces-fit;
+      few = sound .few;
+      finals-last = sound .finals-last;
+      tied = sound .tied;
+    })
 
 -- another window of the same length, and other marks of error and stop
 pub remarked : (r : Record) (s b f : ℕ) (ps : List ℕ) (error stop : Bool) (w : Window) → length w ≡ 256 → Stands r s b f ps
-  → Stands (record { flags = record { reserved = r .flags .reserved; running = r .flags .running; error = error; stop = stop }; counts = r .counts; program = r .program; window = w }) s b f ps
+    → Stands (record { flags = record { reserved = r .flags .reserved; running = r .flags .running; error = error; stop = stop }; counts = r .counts; program = r .program; window = w }) s b f ps
 remarked r s b f ps error stop w long h = record {
   window = long;
   placed = h .placed;

@@ -47,15 +47,15 @@ pub dues-append : (xs ys : List Piece) → dues (xs ++ ys) ≡ dues xs ++ dues y
 dues-append [] ys = refl
 dues-append (x ∷ xs) ys =
     ap (λ (l : List Due). dueFrom (x .due) (x .channel .0) (x .next .0) ++ l) (dues-append xs ys)
-      ∙ sym (append-assoc (dueFrom (x .due) (x .channel .0) (x .next .0)) (dues xs) (dues ys))
+    ∙ sym (append-assoc (dueFrom (x .due) (x .channel .0) (x .next .0)) (dues xs) (dues ys))
 
 pub places-append : (c : ℕ) (xs ys : List Due) → placesDue c (xs ++ ys) ≡ placesDue c xs ++ placesDue c ys
 places-append c [] ys = refl
 places-append c (x ∷ xs) ys =
     let rest = places-append c xs ys in
     cond-both (eqb (x .channel) c) _ _ (λ (l : List ℕ). cond (eqb (x .channel) c) (x .place ∷ placesDue c (xs ++ ys)) (placesDue c (xs ++ ys)) ≡ l ++ placesDue c ys)
-      (λ here. cond-true _ _ _ here ∙ ap (λ (l : List ℕ). x .place ∷ l) rest)
-      (λ other. cond-false _ _ _ other ∙ rest)
+    (λ here. cond-true _ _ _ here ∙ ap (λ (l : List ℕ). x .place ∷ l) rest)
+    (λ other. cond-false _ _ _ other ∙ rest)
 
 -- the places that one piece waits for: its channel's, and no other channel's
 pub places-own : (c n p : ℕ) → placesDue c (dueFrom n c p) ≡ countUp n p

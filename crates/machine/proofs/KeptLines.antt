@@ -38,14 +38,14 @@ total-one zero x low = absurd (omega arith)
 total-one (suc n) x low =
     let rest = total-one n x in
     ⊎-elim
-      (λ same.
-        let here : boolByte (eqb x n) ≡ 1 = ap boolByte (eq-eqb x n same) in
-        let none = total-none n (λ d. boolByte (eqb x d)) (λ d h. ap boolByte (ne-eqb x d (λ e. omega arith))) in
-        omega (arith, here, none))
-      (λ apart.
-        let other : boolByte (eqb x n) ≡ 0 = ap boolByte (ne-eqb x n apart) in
-        omega (arith, other, rest (omega arith)))
-      (cases-eq x n)
+    (λ same.
+    let here : boolByte (eqb x n) ≡ 1 = ap boolByte (eq-eqb x n same) in
+    let none = total-none n (λ d. boolByte (eqb x d)) (λ d h. ap boolByte (ne-eqb x d (λ e. omega arith))) in
+    omega (arith, here, none))
+    (λ apart.
+    let other : boolByte (eqb x n) ≡ 0 = ap boolByte (ne-eqb x n apart) in
+    omega (arith, other, rest (omega arith)))
+    (cases-eq x n)
 
 -- a line is as long as its channels stand in it, one by one
 total-line : (n : ℕ) (xs : List Channel) → n ≡ 16 → ChannelsFit xs → total n (λ d. times d xs) ≡ length xs
@@ -69,9 +69,9 @@ total-room (suc n) c g most low none =
     let rest = total-room n c g (λ d h. most d (omega arith)) in
     let all = total-most n g (λ d h. most d (omega arith)) in
     ⊎-elim
-      (λ same. let here : g n ≡ 0 = ap g (sym same) ∙ none in omega arith)
-      (λ apart. omega (arith, rest (omega arith) none, most n (omega arith)))
-      (cases-eq c n)
+    (λ same. let here : g n ≡ 0 = ap g (sym same) ∙ none in omega arith)
+    (λ apart. omega (arith, rest (omega arith) none, most n (omega arith)))
+    (cases-eq c n)
 
 bool-small : (b : Bool) → boolByte b ≤ 1
 bool-small true = omega arith

@@ -65,9 +65,9 @@ piece-nonempty r s b f ps h waits =
 pub waits-runs : (r : Record) (s b f : ℕ) (ps : List ℕ) → Stands r s b f ps → 0 < s + b → (r .flags .running ≡ true) × (s + b ≡ 1) × (f ≡ 0)
 waits-runs r s b f ps h waits =
     ⊎-elim
-      (λ runs. let one : s + b + f ≡ 1 = h .placed ∙ ap boolByte runs in (runs, omega (arith, one, waits), omega (arith, one, waits)))
-      (λ rests. let none : s + b + f ≡ 0 = h .placed ∙ ap boolByte rests in absurd (omega (arith, none, waits)))
-      (cases-bool (r .flags .running))
+    (λ runs. let one : s + b + f ≡ 1 = h .placed ∙ ap boolByte runs in (runs, omega (arith, one, waits), omega (arith, one, waits)))
+    (λ rests. let none : s + b + f ≡ 0 = h .placed ∙ ap boolByte rests in absurd (omega (arith, none, waits)))
+    (cases-bool (r .flags .running))
 
 -- a single's one piece is final
 pub single-final : (r : Record) (s b f : ℕ) (ps : List ℕ) → Stands r s b f ps → 0 < s + b → r .program .single ≡ true → final r ≡ true
@@ -89,8 +89,8 @@ placed-after : (run h fin : Bool) (t c f n : ℕ) → run ≡ true → f ≡ 0 �
 placed-after run h fin t c f n er ef en count = grind (arith, tells)
 
 served-stands : (r : Record) (s b f t c : ℕ) (ps : List ℕ) → Stands r s b f ps → 0 < s + b → t + c + boolByte (final r) ≡ s + b → (0 < t → 0 < s) → (0 < c → 0 < b)
-  → Stands (servedRecord r) t c (f + boolByte (hasReplies (r .program .mode) && final r))
-      (ps ++ cond (hasReplies (r .program .mode)) (countUp (pieceLength (nextPiece r)) (nextPiece r .from)) [])
+    → Stands (servedRecord r) t c (f + boolByte (hasReplies (r .program .mode) && final r))
+    (ps ++ cond (hasReplies (r .program .mode)) (countUp (pieceLength (nextPiece r)) (nextPiece r .from)) [])
 served-stands r s b f t c ps h waits count singles blocks =
     let k = piece-nonempty r s b f ps h waits in
     let at = waits-runs r s b f ps h waits in
@@ -106,41 +106,47 @@ served-stands r s b f t c ps h waits count singles blocks =
       landed-sent = omega (arith, h .landed-sent);
       sent-all = all-sent (r .program .first) (r .counts .sent) (pieceLength (nextPiece r)) (nextPiece r .to) (r .program .last) (k .sent-so) (k .to-last);
       unsent = λ some. some-left (r .program .first) (r .counts .sent) (pieceLength (nextPiece r)) (nextPiece r .to) (r .program .last) (k .sent-so) (k .to-last)
-        (not-final r (stays t c (s + b) (final r) some (at .1) count));
+          (not-final r (stays t c (s + b) (final r) some (at .1) count));
       due = ⊎-elim (due-more k (at .0)) due-none (cases-bool (hasReplies (r .program .mode)));
     }
   where
     all-sent : (a n l t z : ℕ) → a + (n + l) ≡ t + 1 → t ≤ z → n + l ≤ z + 1 - a
     all-sent a n l t z e h = omega arith
+
     some-left : (a n l t z : ℕ) → a + (n + l) ≡ t + 1 → t ≤ z → (t ≡ z → ⊥) → n + l ≤ z - a
     some-left a n l t z e h more = omega arith
+
     stays : (t c n : ℕ) (fin : Bool) → 0 < t + c → n ≡ 1 → t + c + boolByte fin ≡ n → fin ≡ false
     stays t c n true some one e = absurd (omega arith)
     stays t c n false some one e = refl
+
     due-more : NextPiece r → r .flags .running ≡ true → hasReplies (r .program .mode) ≡ true
-      → ps ++ cond (hasReplies (r .program .mode)) (countUp (pieceLength (nextPiece r)) (nextPiece r .from)) []
+        → ps ++ cond (hasReplies (r .program .mode)) (countUp (pieceLength (nextPiece r)) (nextPiece r .from)) []
         ≡ countUp (stillDue (servedRecord r)) (r .program .first + r .counts .landed)
     due-more k runs replies =
         let old : stillDue r ≡ r .counts .sent - r .counts .landed = cond-true _ _ _ (and-from _ _ runs replies) in
         let still : (r .flags .running && not (final r && not (hasReplies (r .program .mode)))) ≡ true = on (r .flags .running) (final r) (hasReplies (r .program .mode)) runs replies in
         let new : stillDue (servedRecord r) ≡ r .counts .sent + pieceLength (nextPiece r) - r .counts .landed = cond-true _ _ _ (and-from _ _ still replies) in
         let sum : r .counts .sent - r .counts .landed + pieceLength (nextPiece r) ≡ stillDue (servedRecord r) =
-          sum-is (r .counts .sent) (r .counts .landed) (pieceLength (nextPiece r)) (h .landed-sent) ∙ sym new in
+        sum-is (r .counts .sent) (r .counts .landed) (pieceLength (nextPiece r)) (h .landed-sent) ∙ sym new in
         let from : nextPiece r .from ≡ r .program .first + r .counts .landed + (r .counts .sent - r .counts .landed) = from-is (r .program .first) (r .counts .landed) (r .counts .sent) (h .landed-sent) in
         ap (λ (l : List ℕ). ps ++ l) (cond-true _ _ _ replies)
-          ∙ ap (λ (l : List ℕ). l ++ countUp (pieceLength (nextPiece r)) (nextPiece r .from)) (h .due ∙ ap (λ (n : ℕ). countUp n (r .program .first + r .counts .landed)) old)
-          ∙ ap (λ (a : ℕ). countUp (r .counts .sent - r .counts .landed) (r .program .first + r .counts .landed) ++ countUp (pieceLength (nextPiece r)) a) from
-          ∙ sym (count-split (r .counts .sent - r .counts .landed) (pieceLength (nextPiece r)) (r .program .first + r .counts .landed))
-          ∙ ap (λ (n : ℕ). countUp n (r .program .first + r .counts .landed)) sum
+        ∙ ap (λ (l : List ℕ). l ++ countUp (pieceLength (nextPiece r)) (nextPiece r .from)) (h .due ∙ ap (λ (n : ℕ). countUp n (r .program .first + r .counts .landed)) old)
+        ∙ ap (λ (a : ℕ). countUp (r .counts .sent - r .counts .landed) (r .program .first + r .counts .landed) ++ countUp (pieceLength (nextPiece r)) a) from
+        ∙ sym (count-split (r .counts .sent - r .counts .landed) (pieceLength (nextPiece r)) (r .program .first + r .counts .landed))
+        ∙ ap (λ (n : ℕ). countUp n (r .program .first + r .counts .landed)) sum
       where
         on : (run fin h : Bool) → run ≡ true → h ≡ true → (run && not (fin && not h)) ≡ true
         on run fin h e f = grind (arith, tells)
+
         sum-is : (n l p : ℕ) → l ≤ n → n - l + p ≡ n + p - l
         sum-is n l p h = omega arith
+
         from-is : (a l n : ℕ) → l ≤ n → a + n ≡ a + l + (n - l)
         from-is a l n h = omega arith
+
     due-none : hasReplies (r .program .mode) ≡ false
-      → ps ++ cond (hasReplies (r .program .mode)) (countUp (pieceLength (nextPiece r)) (nextPiece r .from)) []
+        → ps ++ cond (hasReplies (r .program .mode)) (countUp (pieceLength (nextPiece r)) (nextPiece r .from)) []
         ≡ countUp (stillDue (servedRecord r)) (r .program .first + r .counts .landed)
     due-none silent =
         let old : stillDue r ≡ 0 = cond-false _ _ _ (and-right (r .flags .running) (hasReplies (r .program .mode)) silent) in
@@ -160,7 +166,7 @@ dues-flown true ps q = dues-append ps (q ∷ []) ∙ ap (λ (l : List Due). dues
 dues-flown false ps q = sym (append-nil (dues ps))
 
 places-flown : (d : ℕ) (h : Bool) (ps : List Piece) (q : Piece)
-  → placesDue d (dues (flown h ps q)) ≡ placesDue d (dues ps) ++ cond h (placesDue d (dueFrom (q .due) (q .channel .0) (q .next .0))) []
+    → placesDue d (dues (flown h ps q)) ≡ placesDue d (dues ps) ++ cond h (placesDue d (dueFrom (q .due) (q .channel .0) (q .next .0))) []
 places-flown d h ps q = ap (placesDue d) (dues-flown h ps q) ∙ places-append d (dues ps) _ ∙ ap (λ (l : List ℕ). placesDue d (dues ps) ++ l) (inside h)
   where
     inside : (h : Bool) → placesDue d (cond h (dueFrom (q .due) (q .channel .0) (q .next .0)) []) ≡ cond h (placesDue d (dueFrom (q .due) (q .channel .0) (q .next .0))) []
@@ -185,14 +191,15 @@ few-flown false ps q few = omega arith
 -- no final piece of the channel is in flight, so another of its pieces may follow
 final-append : (ps : List Piece) (q : Piece) → FinalLast ps → finals (q .channel .0) ps ≡ 0 → FinalLast (ps ++ q ∷ [])
 final-append [] q last none = (λ _. refl, tt)
-final-append (p ∷ ps) q last none =
-    ( λ end.
-        let apart : q .channel .0 ≡ p .channel .0 → ⊥ = λ same. clash end (sym same) in
-        ap (placesDue (p .channel .0)) (dues-append ps (q ∷ [])) ∙ places-append (p .channel .0) (dues ps) (dues (q ∷ []))
-          ∙ ap (λ (l : List ℕ). l ++ placesDue (p .channel .0) (dues (q ∷ []))) (last .0 end)
-          ∙ ap (placesDue (p .channel .0)) (append-nil (dueFrom (q .due) (q .channel .0) (q .next .0)))
-          ∙ places-other (p .channel .0) (q .channel .0) (q .due) (q .next .0) apart
-    , final-append ps q (last .1) (omega (arith, none)) )
+final-append (p ∷ ps) q last none = (
+  λ end.
+      let apart : q .channel .0 ≡ p .channel .0 → ⊥ = λ same. clash end (sym same) in
+      ap (placesDue (p .channel .0)) (dues-append ps (q ∷ [])) ∙ places-append (p .channel .0) (dues ps) (dues (q ∷ []))
+      ∙ ap (λ (l : List ℕ). l ++ placesDue (p .channel .0) (dues (q ∷ []))) (last .0 end)
+      ∙ ap (placesDue (p .channel .0)) (append-nil (dueFrom (q .due) (q .channel .0) (q .next .0)))
+      ∙ places-other (p .channel .0) (q .channel .0) (q .due) (q .next .0) apart,
+  final-append ps q (last .1) (omega (arith, none)),
+)
   where
     clash : p .last ≡ true → p .channel .0 ≡ q .channel .0 → ⊥
     clash end same =
@@ -216,6 +223,7 @@ sent-one q v w sends =
   where
     clash : refuses q v ≡ true → ⊥
     clash refused = let e : _≡_ {A = Result (Unit {0}) MemoryFault} (Ok tt) (Err TransitFull) = sends .answers ∙ cond-true _ _ _ refused in let z : _≡_ {A = ℕ} 0 1 = cc in omega arith
+
     more : (b : Bool) → length (cond b (v .transit ++ v .cell (q .cell .0) ∷ []) (v .transit)) ≡ length (v .transit) + boolByte b
     more true = length-append (v .transit) _
     more false = omega arith
@@ -251,8 +259,8 @@ chosen-from (s ∷ ss) (b ∷ bs) false c e = inl (let same : s ≡ c = cc in ap
 pub serviced-from : (m : Mean) (c : Channel) → serviced m ≡ Some c → (length (m .flight) < 4) × (chosen (m .singles) (m .blocks) (m .afterSingle) ≡ Some c)
 serviced-from m c =
     cond-both (ltb (length (m .flight)) 4) _ _ (λ (o : Option Channel). o ≡ Some c → (length (m .flight) < 4) × (chosen (m .singles) (m .blocks) (m .afterSingle) ≡ Some c))
-      (λ few e. (ltb-true _ _ few, e))
-      (λ _ e. absurd (let z : _≡_ {A = ℕ} 0 1 = cc in omega arith))
+    (λ few e. (ltb-true _ _ few, e))
+    (λ _ e. absurd (let z : _≡_ {A = ℕ} 0 1 = cc in omega arith))
 
 -- the piece of a service
 abbrev pub sentPiece : Channel → Record → Piece
@@ -260,46 +268,49 @@ sentPiece c r = record { channel = c; next = record { 0 = nextPiece r .from }; d
 
 -- the channel leaves its line, or goes to the end of it; xs and ys are the lines after
 serve-lines : (m : Mean) (v w : View) (c : Channel) (xs ys : List Channel) → Sound m v → length (m .flight) < 4 → c .0 < 16
-  → 0 < times (c .0) (m .singles) + times (c .0) (m .blocks)
-  → serve m c (recordOf m (c .0)) .singles ≡ xs → serve m c (recordOf m (c .0)) .blocks ≡ ys
-  → times (c .0) xs + times (c .0) ys + boolByte (final (recordOf m (c .0))) ≡ times (c .0) (m .singles) + times (c .0) (m .blocks)
-  → (0 < times (c .0) xs → 0 < times (c .0) (m .singles)) → (0 < times (c .0) ys → 0 < times (c .0) (m .blocks))
-  → ((d : ℕ) → d ≢ c .0 → (times d xs ≡ times d (m .singles)) × (times d ys ≡ times d (m .blocks)))
-  → ChannelsFit xs → ChannelsFit ys → SentAll (requests (recordOf m (c .0))) v w → Sound (serve m c (recordOf m (c .0))) w
+    → 0 < times (c .0) (m .singles) + times (c .0) (m .blocks)
+    → serve m c (recordOf m (c .0)) .singles ≡ xs → serve m c (recordOf m (c .0)) .blocks ≡ ys
+    → times (c .0) xs + times (c .0) ys + boolByte (final (recordOf m (c .0))) ≡ times (c .0) (m .singles) + times (c .0) (m .blocks)
+    → (0 < times (c .0) xs → 0 < times (c .0) (m .singles)) → (0 < times (c .0) ys → 0 < times (c .0) (m .blocks))
+    → ((d : ℕ) → d ≢ c .0 → (times d xs ≡ times d (m .singles)) × (times d ys ≡ times d (m .blocks)))
+    → ChannelsFit xs → ChannelsFit ys → SentAll (requests (recordOf m (c .0))) v w → Sound (serve m c (recordOf m (c .0))) w
 serve-lines m v w c xs ys sound few low waits ex ey count singles blocks others fit-x fit-y sent =
     let r = recordOf m (c .0) in
     let h = hasReplies (r .program .mode) in
     let q = sentPiece c r in
     changed m (serve m c r) v w (c .0) (servedRecord r) (times (c .0) xs) (times (c .0) ys) _ _ sound low refl
-      (ap (times (c .0)) ex) (ap (times (c .0)) ey)
-      (finals-flown (c .0) h (m .flight) q ∙ ap (λ (b : Bool). finals (c .0) (m .flight) + boolByte (h && (b && final r))) (eq-eqb (c .0) (c .0) refl))
-      (places-flown (c .0) h (m .flight) q
-        ∙ ap (λ (l : List ℕ). placesDue (c .0) (dues (m .flight)) ++ cond h l []) (places-own (c .0) (pieceLength (nextPiece r)) (nextPiece r .from)))
-      (served-stands r _ _ _ _ _ _ before waits count singles blocks)
-      (λ d apart. record {
-        singles = ap (times d) ex ∙ others d apart .0;
-        blocks = ap (times d) ey ∙ others d apart .1;
-        finals = finals-flown d h (m .flight) q ∙ ap (λ (b : Bool). finals d (m .flight) + boolByte (h && (b && final r))) (ne-eqb (c .0) d (λ e. apart (sym e))) ∙ no-final h (finals d (m .flight));
-        places = places-flown d h (m .flight) q
+    (ap (times (c .0)) ex) (ap (times (c .0)) ey)
+    (finals-flown (c .0) h (m .flight) q ∙ ap (λ (b : Bool). finals (c .0) (m .flight) + boolByte (h && (b && final r))) (eq-eqb (c .0) (c .0) refl))
+    (places-flown (c .0) h (m .flight) q
+    ∙ ap (λ (l : List ℕ). placesDue (c .0) (dues (m .flight)) ++ cond h l []) (places-own (c .0) (pieceLength (nextPiece r)) (nextPiece r .from)))
+    (served-stands r _ _ _ _ _ _ before waits count singles blocks)
+    (λ d apart. record {
+      singles = ap (times d) ex ∙ others d apart .0;
+      blocks = ap (times d) ey ∙ others d apart .1;
+      finals = finals-flown d h (m .flight) q ∙ ap (λ (b : Bool). finals d (m .flight) + boolByte (h && (b && final r))) (ne-eqb (c .0) d (λ e. apart (sym e))) ∙ no-final h (finals d (m .flight));
+      places = places-flown d h (m .flight) q
           ∙ ap (λ (l : List ℕ). placesDue d (dues (m .flight)) ++ cond h l []) (places-other d (c .0) (pieceLength (nextPiece r)) (nextPiece r .from) (λ e. apart (sym e)))
           ∙ no-places h (placesDue d (dues (m .flight)));
-      })
-      (record {
-        singles-fit = subst ChannelsFit (sym ex) fit-x;
-        blocks-fit = subst ChannelsFit (sym ey) fit-y;
-        pieces-fit = fit-flown h (m .flight) q (sound .pieces-fit) (low, piece .some, piece .short, tt);
-        few = few-flown h (m .flight) q few;
-        finals-last = final-flown h (m .flight) q (sound .finals-last) (waits-runs r _ _ _ _ before waits .2);
-        tied = sent-transit r (pieceLength (nextPiece r)) (nextPiece r .from) v w sent ∙ ap (λ (n : ℕ). n + cond h (pieceLength (nextPiece r)) 0) (sound .tied) ∙ sym (length-flown h (m .flight) q);
-      })
+    })
+    (record {
+      singles-fit = subst ChannelsFit (sym ex) fit-x;
+      blocks-fit = subst ChannelsFit (sym ey) fit-y;
+      pieces-fit = fit-flown h (m .flight) q (sound .pieces-fit) (low, piece .some, piece .short, tt);
+      few = few-flown h (m .flight) q few;
+      finals-last = final-flown h (m .flight) q (sound .finals-last) (waits-runs r _ _ _ _ before waits .2);
+      tied = sent-transit r (pieceLength (nextPiece r)) (nextPiece r .from) v w sent ∙ ap (λ (n : ℕ). n + cond h (pieceLength (nextPiece r)) 0) (sound .tied) ∙ sym (length-flown h (m .flight) q);
+    })
   where
     before : Stands (recordOf m (c .0)) (times (c .0) (m .singles)) (times (c .0) (m .blocks)) (finals (c .0) (m .flight)) (placesDue (c .0) (dues (m .flight)))
     before = stands m (c .0) (sound .channels (c .0) low)
+
     piece : NextPiece (recordOf m (c .0))
     piece = piece-nonempty (recordOf m (c .0)) _ _ _ _ before waits
+
     no-final : (b : Bool) (n : ℕ) → n + boolByte (b && false) ≡ n
     no-final true n = omega arith
     no-final false n = omega arith
+
     no-places : (b : Bool) (l : List ℕ) → l ++ cond b [] [] ≡ l
     no-places true l = append-nil l
     no-places false l = append-nil l
@@ -331,7 +342,7 @@ fit-requeued true c l low fit = fit
 fit-requeued false c l low fit = channels-append l (c ∷ []) fit (low, tt)
 
 serve-single : (m : Mean) (v w : View) (c : Channel) → Sound m v → length (m .flight) < 4 → m .singles ≡ c ∷ rest (m .singles)
-  → SentAll (requests (recordOf m (c .0))) v w → Sound (serve m c (recordOf m (c .0))) w
+    → SentAll (requests (recordOf m (c .0))) v w → Sound (serve m c (recordOf m (c .0))) w
 serve-single m v w c sound few e sent =
     let fit : ChannelsFit (c ∷ rest (m .singles)) = subst ChannelsFit e (sound .singles-fit) in
     let low : c .0 < 16 = fit .0 in
@@ -341,10 +352,10 @@ serve-single m v w c sound few e sent =
     let single = sound .channels (c .0) low .single-line some in
     let fin : boolByte (final (recordOf m (c .0))) ≡ 1 = ap boolByte (single-final _ _ _ _ _ (stands m (c .0) (sound .channels (c .0) low)) waits single) in
     serve-lines m v w c (rest (m .singles)) (m .blocks) sound few low waits (cond-true _ _ _ single) (cond-true _ _ _ single)
-      (omega (arith, head, fin)) (λ _. some) (λ h. h) (λ d apart. (times-beside d c (m .singles) e apart, refl)) (fit .1) (sound .blocks-fit) sent
+    (omega (arith, head, fin)) (λ _. some) (λ h. h) (λ d apart. (times-beside d c (m .singles) e apart, refl)) (fit .1) (sound .blocks-fit) sent
 
 serve-block : (m : Mean) (v w : View) (c : Channel) → Sound m v → length (m .flight) < 4 → m .blocks ≡ c ∷ rest (m .blocks)
-  → SentAll (requests (recordOf m (c .0))) v w → Sound (serve m c (recordOf m (c .0))) w
+    → SentAll (requests (recordOf m (c .0))) v w → Sound (serve m c (recordOf m (c .0))) w
 serve-block m v w c sound few e sent =
     let fit : ChannelsFit (c ∷ rest (m .blocks)) = subst ChannelsFit e (sound .blocks-fit) in
     let low : c .0 < 16 = fit .0 in
@@ -355,8 +366,8 @@ serve-block m v w c sound few e sent =
     let fin = final (recordOf m (c .0)) in
     let after = times-requeued fin c (rest (m .blocks)) in
     serve-lines m v w c (m .singles) (requeued fin c (rest (m .blocks))) sound few low waits (cond-false _ _ _ block) (cond-false _ _ _ block)
-      (omega (arith, head, after)) (λ h. h) (λ _. some)
-      (λ d apart. (refl, beside-requeued fin d c (rest (m .blocks)) apart ∙ times-beside d c (m .blocks) e apart)) (sound .singles-fit) (fit-requeued fin c _ low (fit .1)) sent
+    (omega (arith, head, after)) (λ h. h) (λ _. some)
+    (λ d apart. (refl, beside-requeued fin d c (rest (m .blocks)) apart ∙ times-beside d c (m .blocks) e apart)) (sound .singles-fit) (fit-requeued fin c _ low (fit .1)) sent
 
 pub sound-serve : (m : Mean) (v w : View) (c : Channel) → Sound m v → serviced m ≡ Some c → SentAll (requests (recordOf m (c .0))) v w → Sound (serve m c (recordOf m (c .0))) w
 sound-serve m v w c sound picked sent =
@@ -375,9 +386,9 @@ pub serves : (m : Mean) (v : View) (c : Channel) → Sound m v → serviced m �
 serves m v c sound picked =
     let from = serviced-from m c picked in
     ⊎-elim
-      (λ e. let fit : ChannelsFit (c ∷ rest (m .singles)) = subst ChannelsFit e (sound .singles-fit) in known (fit .0) (from .0) (omega (arith, times-head c (m .singles) e)))
-      (λ e. let fit : ChannelsFit (c ∷ rest (m .blocks)) = subst ChannelsFit e (sound .blocks-fit) in known (fit .0) (from .0) (omega (arith, times-head c (m .blocks) e)))
-      (chosen-from (m .singles) (m .blocks) (m .afterSingle) c (from .1))
+    (λ e. let fit : ChannelsFit (c ∷ rest (m .singles)) = subst ChannelsFit e (sound .singles-fit) in known (fit .0) (from .0) (omega (arith, times-head c (m .singles) e)))
+    (λ e. let fit : ChannelsFit (c ∷ rest (m .blocks)) = subst ChannelsFit e (sound .blocks-fit) in known (fit .0) (from .0) (omega (arith, times-head c (m .blocks) e)))
+    (chosen-from (m .singles) (m .blocks) (m .afterSingle) c (from .1))
   where
     known : c .0 < 16 → length (m .flight) < 4 → 0 < times (c .0) (m .singles) + times (c .0) (m .blocks) → Serves m c
     known low few waits =

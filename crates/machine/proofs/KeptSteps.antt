@@ -75,13 +75,13 @@ pub sound-turn : (t : Turned) (m n : Mean) (v w : View) → Turns t m n v w → 
 sound-turn t m n v w turns sound =
     let between = landed m (m .flight) (turns .answered) in
     subst (λ (x : Mean). Sound x w) (sym (turns .after-is))
-      (sound-served between (turns .between) w (serviced between) refl (turns .sends) (sound-landed m v (turns .between) (m .flight) (turns .answered) refl (turns .takes) sound))
+    (sound-served between (turns .between) w (serviced between) refl (turns .sends) (sound-landed m v (turns .between) (m .flight) (turns .answered) refl (turns .takes) sound))
 
 -- what each check tells where nothing is refused
 channel-ok : (c : ℕ) (o : Refused) → checkChannel c o ≡ None → (c < 16) × (o ≡ None)
 channel-ok c o =
     cond-both (leb c 15) o (Some fault.NoChannel) (λ (x : Refused). x ≡ None → (c < 16) × (o ≡ None))
-      (λ low e. (omega (arith, leb-true c 15 low), e)) (λ _ e. absurd (let z : _≡_ {A = ℕ} 0 1 = cc in omega arith))
+    (λ low e. (omega (arith, leb-true c 15 low), e)) (λ _ e. absurd (let z : _≡_ {A = ℕ} 0 1 = cc in omega arith))
 
 reserved-ok : (r : Record) (o : Refused) → checkReserved r o ≡ None → o ≡ None
 reserved-ok r o =
@@ -90,7 +90,7 @@ reserved-ok r o =
 resting-ok : (r : Record) (o : Refused) → checkResting r o ≡ None → r .flags .running ≡ false
 resting-ok r o =
     cond-both (r .flags .running) (Some fault.Running) o (λ (x : Refused). x ≡ None → r .flags .running ≡ false)
-      (λ _ e. absurd (let z : _≡_ {A = ℕ} 0 1 = cc in omega arith)) (λ rests _. rests)
+    (λ _ e. absurd (let z : _≡_ {A = ℕ} 0 1 = cc in omega arith)) (λ rests _. rests)
 
 unless : (o : Refused) (m n : Mean) (v : View) → Sound m v → (o ≡ None → Sound n v) → Sound (unlessRefused o m n) v
 unless None m n v sound then = then refl
@@ -110,7 +110,7 @@ single-read h w low =
     let p = Single (record { place = h .first; cell = record { 0 = w .second }; action = sending (h .mode) (w .third) }) in
     let good : Read (stored p) = record { ordered = omega arith; within = low; one-place = λ _. refl } in
     cond-both (not (eqb (h .first .0) (h .last .0))) _ _ ReadWell (λ _. tt)
-      (λ _. cond-both (not (isSome (sent (sending (h .mode) (w .third)))) && not (eqb (w .third) 0)) (Err program.ThirdWord) (Ok p) ReadWell (λ _. tt) (λ _. good))
+    (λ _. cond-both (not (isSome (sent (sending (h .mode) (w .third)))) && not (eqb (w .third) 0)) (Err program.ThirdWord) (Ok p) ReadWell (λ _. tt) (λ _. good))
 
 block-read : (h : Header) (range : PlaceRange) (w : Words) → range .last .0 < 256 → ReadWell (readBlock h range w)
 block-read h range w low =
@@ -131,7 +131,7 @@ header-read : (w : ℕ) → Fields (readHeader w)
 header-read w =
     let low : (fieldsOf w .first .0 < 256) × (fieldsOf w .last .0 < 256) = (omega arith, omega arith) in
     cond-both (ltb 0 (strayBits w)) _ _ Fields (λ _. tt)
-      (λ _. cond-both (ltb (modeBits w) 2 && ltb 0 (operatorBits w)) (Err OperatorBits) (Ok (fieldsOf w)) Fields (λ _. tt) (λ _. low))
+    (λ _. cond-both (ltb (modeBits w) 2 && ltb 0 (operatorBits w)) (Err OperatorBits) (Ok (fieldsOf w)) Fields (λ _. tt) (λ _. low))
 
 rest-read : (r : Result Header WordsFault) (w : Words) → Fields r → ReadWell (readRest r w)
 rest-read (Err f) w h = tt
@@ -141,8 +141,8 @@ pub program-read : (w : Words) → ReadWell (readProgram w)
 program-read w = rest-read (readHeader (w .first)) w (header-read (w .first))
 
 sound-started : (m : Mean) (v : View) (c : ℕ) (r : Result Program ProgramFault) (then : Program → Refused) → ReadWell r → Sound m v → c < 16
-  → checkProgram r then ≡ None → ((p : Program) → then p ≡ None → recordOf m c .flags .running ≡ false)
-  → Sound (elim r [ Ok p ↦ startProgram m c (stored p) | Err f ↦ m ]) v
+    → checkProgram r then ≡ None → ((p : Program) → then p ≡ None → recordOf m c .flags .running ≡ false)
+    → Sound (elim r [ Ok p ↦ startProgram m c (stored p) | Err f ↦ m ]) v
 sound-started m v c (Err f) then read sound low none rests = sound
 sound-started m v c (Ok p) then read sound low none rests = sound-start m v c (stored p) sound low (rests p none) (read .ordered) (read .within) (read .one-place)
 
@@ -154,15 +154,15 @@ pub sound-step : (call : Call) (a : Answer) (m n : Mean) (v w : View) → Step c
 sound-step reserve a m n v w step sound = moved n _ v w (step .1) (step .2) (sound-reserve m v sound)
 sound-step (release c) a m n v w step sound =
     moved n _ v w (step .1) (step .2) (unless (releaseRefused m c) m (releaseState m c) v sound (λ none.
-      let ok = channel-ok c _ none in sound-release m v c sound (ok .0) (resting-ok (recordOf m c) _ (reserved-ok (recordOf m c) _ (ok .1)))))
+    let ok = channel-ok c _ none in sound-release m v c sound (ok .0) (resting-ok (recordOf m c) _ (reserved-ok (recordOf m c) _ (ok .1)))))
 sound-step (put c p x) a m n v w step sound =
     moved n _ v w (step .1) (step .2) (unless (putRefused m c p) m (putState m c p x) v sound (λ none. sound-put m v c p x sound (channel-ok c _ none .0)))
 sound-step (fill c bytes) a m n v w step sound =
     moved n _ v w (step .1) (step .2) (unless (fillRefused m c bytes) m (fillState m c bytes) v sound (λ none. sound-fill m v c bytes sound (channel-ok c _ none .0)))
 sound-step (start c words) a m n v w step sound =
     moved n _ v w (step .1) (step .2) (unless (startRefused m c words) m (startState m c words) v sound (λ none.
-      let ok = channel-ok c _ none in
-      sound-started m v c (readProgram words) _ (program-read words) sound (ok .0) (ok .1) (λ p clear. resting-ok (recordOf m c) _ (reserved-ok (recordOf m c) _ clear))))
+    let ok = channel-ok c _ none in
+    sound-started m v c (readProgram words) _ (program-read words) sound (ok .0) (ok .1) (λ p clear. resting-ok (recordOf m c) _ (reserved-ok (recordOf m c) _ clear))))
 sound-step (stop c) a m n v w step sound =
     moved n _ v w (step .1) (step .2) (unless (stopRefused m c) m (stopState m c) v sound (λ none. sound-stop m v c sound (channel-ok c _ none .0)))
 sound-step quiet a m n v w step sound = moved n _ v w (step .1) (step .2) (sound-quiet m v true sound)

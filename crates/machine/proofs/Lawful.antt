@@ -28,8 +28,8 @@ module _ (cells : View) (nothing : cells .transit ≡ []) where
         landed = λ c small. link c small .landed;
         stop = λ c small. link c small .stop;
         program = λ c small running.
-          let was = link c small .begins running in
-          (was .0, (was .1, link c small .alone (was .0) (was .1) (was .2) .program));
+            let was = link c small .begins running in
+            (was .0, (was .1, link c small .alone (was .0) (was .1) (was .2) .program));
       }
 
 grounds : trace.Grounds

@@ -147,21 +147,21 @@ beside call c a s plain other = go call (plain-counts c a plain .0) (plain-count
 
 -- a call on the channel d that changes its record to r, unless it is refused
 link-change : (call : Call) (c d : ℕ) (h : History) (m n : Mean) (r : Record) (s : Seen) (o : Refused) → n .records ≡ set (m .records) d r → c < length (m .records)
-  → ((x : Refused) → (eqb d c && accepted (doneUnless x)) ≡ false → Elsewhere call c (doneUnless x))
-  → (o ≡ None → d ≡ c → Link c (record { call = call; answer = answer.Done; after = s } ∷ h) r)
-  → Link c h (recordOf m c) → Link c (record { call = call; answer = doneUnless o; after = s } ∷ h) (recordOf (unlessRefused o m n) c)
+    → ((x : Refused) → (eqb d c && accepted (doneUnless x)) ≡ false → Elsewhere call c (doneUnless x))
+    → (o ≡ None → d ≡ c → Link c (record { call = call; answer = answer.Done; after = s } ∷ h) r)
+    → Link c h (recordOf m c) → Link c (record { call = call; answer = doneUnless o; after = s } ∷ h) (recordOf (unlessRefused o m n) c)
 link-change call c d h m n r s (Some f) set-is within other here link =
     link-beside c _ h (recordOf m c) (beside call c (answer.Refused f) s tt (other (Some f) (and-right (eqb d c) false refl))) link
 link-change call c d h m n r s None set-is within other here link =
     ⊎-elim
-      (λ same. subst (Link c (record { call = call; answer = answer.Done; after = s } ∷ h)) (sym (record-here m n c d r set-is within (eqb-true d c same))) (here refl (eqb-true d c same)))
-      (λ apart. subst (Link c (record { call = call; answer = answer.Done; after = s } ∷ h)) (sym (record-other m n c d r set-is (eqb-false d c apart)))
-        (link-beside c _ h (recordOf m c) (beside call c answer.Done s tt (other None (and-left (eqb d c) true apart))) link))
-      (cases-bool (eqb d c))
+    (λ same. subst (Link c (record { call = call; answer = answer.Done; after = s } ∷ h)) (sym (record-here m n c d r set-is within (eqb-true d c same))) (here refl (eqb-true d c same)))
+    (λ apart. subst (Link c (record { call = call; answer = answer.Done; after = s } ∷ h)) (sym (record-other m n c d r set-is (eqb-false d c apart)))
+    (link-beside c _ h (recordOf m c) (beside call c answer.Done s tt (other None (and-left (eqb d c) true apart))) link))
+    (cases-bool (eqb d c))
 
 -- a put, fill or release was accepted, and the channel rests
 link-touch : (c : ℕ) (e : Event) (h : History) (r : Record) → startsOn c (starts e) ≡ false → touchesBy c (e .call) (e .answer) ≡ true → r .flags .running ≡ false
-  → r .counts .sent ≡ sentCount c (e ∷ h) → r .counts .landed ≡ landedCount c (e ∷ h) → Link c (e ∷ h) r
+    → r .counts .sent ≡ sentCount c (e ∷ h) → r .counts .landed ≡ landedCount c (e ∷ h) → Link c (e ∷ h) r
 link-touch c e h r none touches rests sent landed =
     record {
       sent = sent;
@@ -185,48 +185,48 @@ link-at : (c d : ℕ) (h : History) (m : Mean) → d ≡ c → Link c h (recordO
 link-at c d h m same link = subst (λ (k : ℕ). Link c h (recordOf m k)) (sym same) link
 
 link-release : (c d : ℕ) (h : History) (m : Mean) (s : Seen) → c < length (m .records) → Link c h (recordOf m c)
-  → Link c (record { call = release d; answer = doneUnless (releaseRefused m d); after = s } ∷ h) (recordOf (unlessRefused (releaseRefused m d) m (releaseState m d)) c)
+    → Link c (record { call = release d; answer = doneUnless (releaseRefused m d); after = s } ∷ h) (recordOf (unlessRefused (releaseRefused m d) m (releaseState m d)) c)
 link-release c d h m s within link =
     link-change (release d) c d h m (releaseState m d) (cleared false (recordOf m d .window)) s (releaseRefused m d) refl within (λ x e. e)
-      (λ none same. link-touch c _ h _ refl (accepted-here c d same) refl (sym (cond-true _ _ _ (accepted-here c d same))) (sym (cond-true _ _ _ (accepted-here c d same))))
-      link
+    (λ none same. link-touch c _ h _ refl (accepted-here c d same) refl (sym (cond-true _ _ _ (accepted-here c d same))) (sym (cond-true _ _ _ (accepted-here c d same))))
+    link
 
 link-put : (c d p w : ℕ) (h : History) (m : Mean) (s : Seen) → c < length (m .records) → Link c h (recordOf m c)
-  → Link c (record { call = put d p w; answer = doneUnless (putRefused m d p); after = s } ∷ h) (recordOf (unlessRefused (putRefused m d p) m (putState m d p w)) c)
+    → Link c (record { call = put d p w; answer = doneUnless (putRefused m d p); after = s } ∷ h) (recordOf (unlessRefused (putRefused m d p) m (putState m d p w)) c)
 link-put c d p w h m s within link =
     link-change (put d p w) c d h m (putState m d p w) _ s (putRefused m d p) refl within (λ x e. e)
-      (λ none same. let was = link-at c d h m same link in
-        link-touch c _ h _ refl (accepted-here c d same) (put-rests m d p none) (omega (arith, was .sent)) (omega (arith, was .landed)))
-      link
+    (λ none same. let was = link-at c d h m same link in
+    link-touch c _ h _ refl (accepted-here c d same) (put-rests m d p none) (omega (arith, was .sent)) (omega (arith, was .landed)))
+    link
 
 link-fill : (c d : ℕ) (bytes : List ℕ) (h : History) (m : Mean) (s : Seen) → c < length (m .records) → Link c h (recordOf m c)
-  → Link c (record { call = fill d bytes; answer = doneUnless (fillRefused m d bytes); after = s } ∷ h) (recordOf (unlessRefused (fillRefused m d bytes) m (fillState m d bytes)) c)
+    → Link c (record { call = fill d bytes; answer = doneUnless (fillRefused m d bytes); after = s } ∷ h) (recordOf (unlessRefused (fillRefused m d bytes) m (fillState m d bytes)) c)
 link-fill c d bytes h m s within link =
     link-change (fill d bytes) c d h m (fillState m d bytes) _ s (fillRefused m d bytes) refl within (λ x e. e)
-      (λ none same. let was = link-at c d h m same link in
-        link-touch c _ h _ refl (accepted-here c d same) (fill-rests m d bytes none) (omega (arith, was .sent)) (omega (arith, was .landed)))
-      link
+    (λ none same. let was = link-at c d h m same link in
+    link-touch c _ h _ refl (accepted-here c d same) (fill-rests m d bytes none) (omega (arith, was .sent)) (omega (arith, was .landed)))
+    link
 
 link-stop : (c d : ℕ) (h : History) (m : Mean) (s : Seen) → c < length (m .records) → Link c h (recordOf m c)
-  → Link c (record { call = stop d; answer = doneUnless (stopRefused m d); after = s } ∷ h) (recordOf (unlessRefused (stopRefused m d) m (stopState m d)) c)
+    → Link c (record { call = stop d; answer = doneUnless (stopRefused m d); after = s } ∷ h) (recordOf (unlessRefused (stopRefused m d) m (stopState m d)) c)
 link-stop c d h m s within link =
     link-change (stop d) c d h m (stopState m d) _ s (stopRefused m d) refl within (λ x e. e)
-      (λ none same. let was = link-at c d h m same link in
-        record {
-          sent = omega (arith, was .sent);
-          landed = omega (arith, was .landed);
-          stop = λ running. sym (cond-true _ _ _ (accepted-here c d same));
-          begins = was .begins;
-          alone = λ b is left. let old = was .alone b is left in record { program = old .program; reserved = old .reserved; places = old .places };
-        })
-      link
+    (λ none same. let was = link-at c d h m same link in
+    record {
+      sent = omega (arith, was .sent);
+      landed = omega (arith, was .landed);
+      stop = λ running. sym (cond-true _ _ _ (accepted-here c d same));
+      begins = was .begins;
+      alone = λ b is left. let old = was .alone b is left in record { program = old .program; reserved = old .reserved; places = old .places };
+    })
+    link
 
 -- start, by what its words say
 abbrev startChecked : Mean → ℕ → Result Program ProgramFault → Refused
 startChecked m c x =
     checkChannel c (checkProgram x (λ p.
-      checkReserved (recordOf m c) (checkResting (recordOf m c)
-        (cond (m .quiet) (Some fault.Quiet) (emptyRefused (stored p) (recordOf m c .window))))))
+    checkReserved (recordOf m c) (checkResting (recordOf m c)
+    (cond (m .quiet) (Some fault.Quiet) (emptyRefused (stored p) (recordOf m c .window))))))
 
 abbrev startAfter : Mean → ℕ → Result Program ProgramFault → Mean
 startAfter m c x = elim x [ Ok p ↦ startProgram m c (stored p) | Err f ↦ m ]
@@ -239,10 +239,10 @@ bad-start m d f none = grind (arith, tests)
 
 -- an accepted start of the channel
 link-started : (c d : ℕ) (w : Words) (q : Stored) (h : History) (window : Window) (s : Seen) → programOf w ≡ Some q → d ≡ c
-  → ((p : ℕ) → lookIn c (started q window) p ≡ s .look c p) → Link c (record { call = start d w; answer = answer.Done; after = s } ∷ h) (started q window)
+    → ((p : ℕ) → lookIn c (started q window) p ≡ s .look c p) → Link c (record { call = start d w; answer = answer.Done; after = s } ∷ h) (started q window)
 link-started c d w q h window s says same sees =
     let begins : begun c (record { call = start d w; answer = answer.Done; after = s } ∷ h) ≡ Some (record { program = q; at = s }) =
-          ap (λ (x : Option Stored). begunBy c (startOf d x) s (begun c h)) says ∙ cond-true _ _ _ (eq-eqb d c same) in
+    ap (λ (x : Option Stored). begunBy c (startOf d x) s (begun c h)) says ∙ cond-true _ _ _ (eq-eqb d c same) in
     let starting : startsOn c (startOf d (programOf w)) ≡ true = ap (λ (x : Option Stored). startsOn c (startOf d x)) says ∙ eq-eqb d c same in
     let resetting : (eqb d c && true) ≡ true = accepted-here c d same in
     record {
@@ -251,23 +251,23 @@ link-started c d w q h window s says same sees =
       stop = λ running. sym (cond-true _ _ _ starting);
       begins = λ running. (record { program = q; at = s }, begins, cond-true _ _ _ starting);
       alone = λ b is left.
-        let same-begun : record { program = q; at = s } ≡ b = cc in
-        subst (λ (x : Begun). Untouched c x (started q window)) same-begun (record { program = refl; reserved = refl; places = λ p below out. sees p });
+          let same-begun : record { program = q; at = s } ≡ b = cc in
+          subst (λ (x : Begun). Untouched c x (started q window)) same-begun (record { program = refl; reserved = refl; places = λ p below out. sees p });
     }
 
 link-start : (c d : ℕ) (w : Words) (h : History) (m : Mean) (v : View) (x : Result Program ProgramFault) → readProgram w ≡ x → c < length (m .records) → Link c h (recordOf m c)
-  → Link c (record { call = start d w; answer = doneUnless (startChecked m d x); after = seen (unlessRefused (startChecked m d x) m (startAfter m d x)) v } ∷ h)
-      (recordOf (unlessRefused (startChecked m d x) m (startAfter m d x)) c)
+    → Link c (record { call = start d w; answer = doneUnless (startChecked m d x); after = seen (unlessRefused (startChecked m d x) m (startAfter m d x)) v } ∷ h)
+    (recordOf (unlessRefused (startChecked m d x) m (startAfter m d x)) c)
 link-start c d w h m v (Ok p) reads within link =
     link-change (start d w) c d h m (startProgram m d (stored p)) (started (stored p) (recordOf m d .window)) _ (startChecked m d (Ok p)) refl within (λ x e. e)
-      (λ none same. link-started c d w (stored p) h (recordOf m d .window) _ (ap programIn reads) same
-        (λ k. sym (ap (λ (o : Refused). lookAnswer (unlessRefused o m (startProgram m d (stored p))) c k) none
-          ∙ ap (λ (r : Record). lookIn c r k) (record-here m (startProgram m d (stored p)) c d _ refl within same))))
-      link
+    (λ none same. link-started c d w (stored p) h (recordOf m d .window) _ (ap programIn reads) same
+    (λ k. sym (ap (λ (o : Refused). lookAnswer (unlessRefused o m (startProgram m d (stored p))) c k) none
+    ∙ ap (λ (r : Record). lookIn c r k) (record-here m (startProgram m d (stored p)) c d _ refl within same))))
+    link
 link-start c d w h m v (Err f) reads within link =
     link-change (start d w) c d h m m (recordOf m d) _ (startChecked m d (Err f)) (sym (set-getD (m .records) d absent)) within (λ x e. e)
-      (λ none same. absurd (bad-start m d f none))
-      link
+    (λ none same. absurd (bad-start m d f none))
+    link
 
 same-some : {x y : ℕ} → Some x ≡ Some y → x ≡ y
 same-some e = cc
@@ -298,7 +298,7 @@ abbrev reservedBy : Mean → Option ℕ → Mean
 reservedBy m o = elim o [ None ↦ m | Some c ↦ withRecord m c (cleared true emptyWindow) ]
 
 link-reserved : (c d : ℕ) (h : History) (window : Window) (r : Record) (s : Seen) → r .flags .reserved ≡ false → d ≡ c → Link c h r
-  → Link c (record { call = reserve; answer = answer.Given (record { 0 = d }); after = s } ∷ h) (cleared true window)
+    → Link c (record { call = reserve; answer = answer.Given (record { 0 = d }); after = s } ∷ h) (cleared true window)
 link-reserved c d h window r s free same link =
     record {
       sent = sym (cond-true _ _ _ (eq-eqb d c same));
@@ -309,22 +309,22 @@ link-reserved c d h window r s free same link =
     }
 
 link-reserve : (c : ℕ) (h : History) (m : Mean) (s : Seen) (o : Option ℕ) → lowestFree (m .records) ≡ o → c < length (m .records) → Link c h (recordOf m c)
-  → Link c (record { call = reserve; answer = givenOr (givenBy o); after = s } ∷ h) (recordOf (reservedBy m o) c)
+    → Link c (record { call = reserve; answer = givenOr (givenBy o); after = s } ∷ h) (recordOf (reservedBy m o) c)
 link-reserve c h m s None is within link = link-beside c _ h (recordOf m c) (beside reserve c (answer.Refused fault.NoneFree) s tt refl) link
 link-reserve c h m s (Some d) is within link =
     ⊎-elim
-      (λ same. let here = eqb-true d c same in
-        subst (Link c (record { call = reserve; answer = answer.Given (record { 0 = d }); after = s } ∷ h)) (sym (record-here m (withRecord m d (cleared true emptyWindow)) c d _ refl within here))
-          (link-reserved c d h emptyWindow (recordOf m d) s (lowest-free (m .records) d is) here (link-at c d h m here link)))
-      (λ apart. subst (Link c (record { call = reserve; answer = answer.Given (record { 0 = d }); after = s } ∷ h))
-        (sym (record-other m (withRecord m d (cleared true emptyWindow)) c d _ refl (eqb-false d c apart)))
-        (link-beside c _ h (recordOf m c) (beside reserve c (answer.Given (record { 0 = d })) s tt apart) link))
-      (cases-bool (eqb d c))
+    (λ same. let here = eqb-true d c same in
+    subst (Link c (record { call = reserve; answer = answer.Given (record { 0 = d }); after = s } ∷ h)) (sym (record-here m (withRecord m d (cleared true emptyWindow)) c d _ refl within here))
+    (link-reserved c d h emptyWindow (recordOf m d) s (lowest-free (m .records) d is) here (link-at c d h m here link)))
+    (λ apart. subst (Link c (record { call = reserve; answer = answer.Given (record { 0 = d }); after = s } ∷ h))
+    (sym (record-other m (withRecord m d (cleared true emptyWindow)) c d _ refl (eqb-false d c apart)))
+    (link-beside c _ h (recordOf m c) (beside reserve c (answer.Given (record { 0 = d })) s tt apart) link))
+    (cases-bool (eqb d c))
 
 -- TURNS
 
 link-turn : (c : ℕ) (t : Turned) (h : History) (r between after : Record) (s : Seen) → Moves r between 0 (landedBy c (t .landing)) → Moves between after (sentBy c (t .service)) 0
-  → Link c h r → Link c (record { call = turn; answer = answer.Turned t; after = s } ∷ h) after
+    → Link c h r → Link c (record { call = turn; answer = answer.Turned t; after = s } ∷ h) after
 link-turn c t h r between after s lands sends link =
     record {
       sent = let was = link .sent in let a = lands .sent in let b = sends .sent in omega arith;
@@ -332,33 +332,33 @@ link-turn c t h r between after s lands sends link =
       stop = λ running. sends .stop ∙ lands .stop ∙ link .stop (lands .running (sends .running running));
       begins = λ running. link .begins (lands .running (sends .running running));
       alone = λ b is left.
-        let was = link .alone b is left in
-        let first : r .program .first ≡ b .program .first = ap (λ (q : Stored). q .first) (was .program) in
-        let first-between : between .program .first ≡ b .program .first = ap (λ (q : Stored). q .first) (lands .program) ∙ first in
-        let e = sends .landed in let l = lands .landed in
-        record {
-          program = sends .program ∙ lands .program ∙ was .program;
-          reserved = sends .reserved ∙ lands .reserved ∙ was .reserved;
-          places = λ p below out.
-            ap (λ (x : Bool). lookWord c p x (getD (after .window) p None)) (sends .reserved ∙ lands .reserved)
-              ∙ ap (lookWord c p (r .flags .reserved)) (sends .places p (⊎-elim (λ o. inl (omega arith)) (λ o. inr (omega arith)) out)
+          let was = link .alone b is left in
+          let first : r .program .first ≡ b .program .first = ap (λ (q : Stored). q .first) (was .program) in
+          let first-between : between .program .first ≡ b .program .first = ap (λ (q : Stored). q .first) (lands .program) ∙ first in
+          let e = sends .landed in let l = lands .landed in
+          record {
+            program = sends .program ∙ lands .program ∙ was .program;
+            reserved = sends .reserved ∙ lands .reserved ∙ was .reserved;
+            places = λ p below out.
+                ap (λ (x : Bool). lookWord c p x (getD (after .window) p None)) (sends .reserved ∙ lands .reserved)
+                ∙ ap (lookWord c p (r .flags .reserved)) (sends .places p (⊎-elim (λ o. inl (omega arith)) (λ o. inr (omega arith)) out)
                 ∙ lands .places p (⊎-elim (λ o. inl (omega arith)) (λ o. inr (omega arith)) out))
-              ∙ was .places p below (⊎-elim (λ o. inl o) (λ o. inr (omega arith)) out);
-        };
+                ∙ was .places p below (⊎-elim (λ o. inl o) (λ o. inr (omega arith)) out);
+          };
     }
 
 link-turns : (c : ℕ) (t : Turned) (h : History) (m n : Mean) (v w : View) (s : Seen) → Sound m v → c < 16 → Turns t m n v w → Link c h (recordOf m c)
-  → Link c (record { call = turn; answer = answer.Turned t; after = s } ∷ h) (recordOf n c)
+    → Link c (record { call = turn; answer = answer.Turned t; after = s } ∷ h) (recordOf n c)
 link-turns c t h m n v w s sound below turns link =
     let mid = landed m (m .flight) (turns .answered) in
     let lands = landed-record m v c (m .flight) (turns .answered) sound below refl .moves in
     let within : c < length (mid .records) = omega (arith, sound .wide, landed-wide m (m .flight) (turns .answered)) in
     let sends = served-record mid c (serviced mid) within in
     subst (λ (x : Mean). Link c (record { call = turn; answer = answer.Turned t; after = s } ∷ h) (recordOf x c)) (sym (turns .after-is))
-      (link-turn c t h (recordOf m c) (recordOf mid c) (recordOf (served mid (serviced mid)) c) s
-        (subst (λ (x : Landing). Moves (recordOf m c) (recordOf mid c) 0 (landedBy c x)) (sym (turns .landing-is)) lands)
-        (subst (λ (x : Service). Moves (recordOf mid c) (recordOf (served mid (serviced mid)) c) (sentBy c x) 0) (sym (turns .service-is)) sends)
-        link)
+    (link-turn c t h (recordOf m c) (recordOf mid c) (recordOf (served mid (serviced mid)) c) s
+    (subst (λ (x : Landing). Moves (recordOf m c) (recordOf mid c) 0 (landedBy c x)) (sym (turns .landing-is)) lands)
+    (subst (λ (x : Service). Moves (recordOf mid c) (recordOf (served mid (serviced mid)) c) (sentBy c x) 0) (sym (turns .service-is)) sends)
+    link)
 
 -- ONE STEP
 
@@ -377,10 +377,10 @@ word-plain (Err f) = tt
 link-left : (call : Call) (c : ℕ) (h : History) (m n : Mean) (w : View) (a : Answer) → n .records ≡ m .records → Plain a → Elsewhere call c a → Link c h (recordOf m c) → LinkAfter c h call w a n
 link-left call c h m n w a same plain other link =
     subst (Link c (record { call = call; answer = a; after = seen n w } ∷ h)) (ap (λ (l : List Record). getD l c absent) (sym same))
-      (link-beside c _ h (recordOf m c) (beside call c a (seen n w) plain other) link)
+    (link-beside c _ h (recordOf m c) (beside call c a (seen n w) plain other) link)
 
 link-step : (call : Call) (c : ℕ) (h : History) (a : Answer) (m n : Mean) (v w : View) → Sound m v → c < 16 → c < length (m .records) → Step call a m v n w → Link c h (recordOf m c)
-  → LinkAfter c h call w a n
+    → LinkAfter c h call w a n
 link-step reserve c h a m n v w sound below within (ea, en, ew) link =
     put-at (LinkAfter c h reserve w) a _ n _ ea en (link-reserve c h m _ (lowestFree (m .records)) refl within link)
 link-step (release d) c h a m n v w sound below within (ea, en, ew) link =
@@ -406,7 +406,7 @@ link-step turn c h a m n v w sound below within (t, ea, turns) link =
 
 -- every step from a sound state keeps the history and the records tied
 pub linked-step : (call : Call) (h : History) (a : Answer) (m n : Mean) (v w : View) → Step call a m v n w → Sound m v → Linked h m
-  → Linked (record { call = call; answer = a; after = seen n w } ∷ h) n
+    → Linked (record { call = call; answer = a; after = seen n w } ∷ h) n
 linked-step call h a m n v w step sound linked c below =
     link-step call c h a m n v w sound below (omega (arith, sound .wide)) step (linked c below)
 
@@ -457,11 +457,11 @@ told-word p (Some w) = refl
 look-word : (c p : ℕ) (r : Record) → c < 16 → p < 256 → r .flags .reserved ≡ true → wordTold (lookIn c r p) ≡ valueOr (getD (r .window) p None) 0
 look-word c p r below place reserved =
     ap wordTold (cond-true (leb c 15) _ _ (le-leb c 15 (omega arith)) ∙ cond-true (leb p 255) _ _ (le-leb p 255 (omega arith)) ∙ cond-true (r .flags .reserved) _ _ reserved)
-      ∙ told-word p (getD (r .window) p None)
+    ∙ told-word p (getD (r .window) p None)
 
 -- the word sent for a place that no request was sent for is that of the start
 pub word-sent : (c : ℕ) (b : Begun) (r mid : Record) (lands : ℕ) → c < 16 → Untouched c b r → Landed r mid lands
-  → (k : ℕ) → mid .counts .sent ≤ k → b .program .first + k < 256 → wordSent mid (b .program .first + k) ≡ wordOf c b k
+    → (k : ℕ) → mid .counts .sent ≤ k → b .program .first + k < 256 → wordSent mid (b .program .first + k) ≡ wordOf c b k
 word-sent c b r mid lands below alone now k unsent place =
     let p = b .program .first + k in
     let program : mid .program ≡ b .program = now .moves .program ∙ alone .program in
@@ -469,7 +469,7 @@ word-sent c b r mid lands below alone now k unsent place =
     let more = now .moves .landed in
     let few = now .landed-sent in
     ap (λ (q : Stored). cond (q .single) (q .word) (valueOr (getD (mid .window) p None) 0)) program
-      ∙ ap (λ (x : ℕ). cond (b .program .single) (b .program .word) x)
-        (ap (λ (x : Option ℕ). valueOr x 0) (now .moves .places p (inr (omega arith)))
-          ∙ sym (look-word c p r below place (alone .reserved))
-          ∙ ap wordTold (alone .places p place (inr (omega arith))))
+    ∙ ap (λ (x : ℕ). cond (b .program .single) (b .program .word) x)
+    (ap (λ (x : Option ℕ). valueOr x 0) (now .moves .places p (inr (omega arith)))
+    ∙ sym (look-word c p r below place (alone .reserved))
+    ∙ ap wordTold (alone .places p place (inr (omega arith))))

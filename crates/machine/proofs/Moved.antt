@@ -89,14 +89,16 @@ running-left a b both = and-parts a b both .0
 moves-landed : (r : Record) (p : Piece) (reply : Option ℕ) → LandsAt r p → Moves r (landedRecord p reply r) 0 1
 moves-landed r p reply lands =
     record {
-      program = refl; reserved = refl; stop = refl;
+      program = refl;
+      reserved = refl;
+      stop = refl;
       running = running-left (r .flags .running) _;
       sent = omega arith;
       landed = refl;
       places = λ k out.
-        let at = lands .at in
-        let apart : k ≢ p .next .0 = λ e. ⊎-elim (λ o. omega arith) (λ o. omega arith) out in
-        getD-set-other (r .window) (p .next .0) k reply None apart;
+          let at = lands .at in
+          let apart : k ≢ p .next .0 = λ e. ⊎-elim (λ o. omega arith) (λ o. omega arith) out in
+          getD-set-other (r .window) (p .next .0) k reply None apart;
     }
 
 -- a channel's record after the landing: no more replies have landed than requests were sent
@@ -108,21 +110,21 @@ landed-same : (m : Mean) (v : View) (c : ℕ) → Sound m v → c < 16 → Lande
 landed-same m v c sound below = record { moves = moves-none (recordOf m c); landed-sent = sound .channels c below .landed-sent }
 
 landed-piece : (m : Mean) (v : View) (c : ℕ) (p : Piece) (rest : List Piece) (reply : Option ℕ) → Sound m v → c < 16 → m .flight ≡ p ∷ rest
-  → Landed (recordOf m c) (recordOf (landPiece m p rest reply) c) (cond (eqb (p .channel .0) c) 1 0)
+    → Landed (recordOf m c) (recordOf (landPiece m p rest reply) c) (cond (eqb (p .channel .0) c) 1 0)
 landed-piece m v c p rest reply sound below is =
     cond-both (eqb (p .channel .0) c) 1 0 (Landed (recordOf m c) (recordOf (landPiece m p rest reply) c))
-      (λ same.
-        let here = eqb-true (p .channel .0) c same in
-        let lands = lands-at m v p rest sound is .1 in
-        let within : c < length (m .records) = omega (arith, sound .wide) in
-        let r = recordOf m (p .channel .0) in
-        let now : Landed r (landedRecord p reply r) 1 = record { moves = moves-landed r p reply lands; landed-sent = let u = lands .unlanded in omega arith } in
-        subst (λ (x : Record). Landed (recordOf m c) x 1) (sym (record-here m (landPiece m p rest reply) c (p .channel .0) _ refl within here))
-          (subst (λ (k : ℕ). Landed (recordOf m k) (landedRecord p reply r) 1) here now))
-      (λ apart. subst (λ (x : Record). Landed (recordOf m c) x 0) (sym (record-other m (landPiece m p rest reply) c (p .channel .0) _ refl (eqb-false _ _ apart))) (landed-same m v c sound below))
+    (λ same.
+    let here = eqb-true (p .channel .0) c same in
+    let lands = lands-at m v p rest sound is .1 in
+    let within : c < length (m .records) = omega (arith, sound .wide) in
+    let r = recordOf m (p .channel .0) in
+    let now : Landed r (landedRecord p reply r) 1 = record { moves = moves-landed r p reply lands; landed-sent = let u = lands .unlanded in omega arith } in
+    subst (λ (x : Record). Landed (recordOf m c) x 1) (sym (record-here m (landPiece m p rest reply) c (p .channel .0) _ refl within here))
+    (subst (λ (k : ℕ). Landed (recordOf m k) (landedRecord p reply r) 1) here now))
+    (λ apart. subst (λ (x : Record). Landed (recordOf m c) x 0) (sym (record-other m (landPiece m p rest reply) c (p .channel .0) _ refl (eqb-false _ _ apart))) (landed-same m v c sound below))
 
 pub landed-record : (m : Mean) (v : View) (c : ℕ) (flight : List Piece) (t : Taken) → Sound m v → c < 16 → m .flight ≡ flight
-  → Landed (recordOf m c) (recordOf (landed m flight t) c) (landedBy c (landing flight t))
+    → Landed (recordOf m c) (recordOf (landed m flight t) c) (landedBy c (landing flight t))
 landed-record m v c [] t sound below is = landed-same m v c sound below
 landed-record m v c (p ∷ rest) taken.Nothing sound below is = landed-same m v c sound below
 landed-record m v c (p ∷ rest) taken.NotYet sound below is = landed-same m v c sound below
@@ -137,7 +139,9 @@ landed-wide m (p ∷ rest) (taken.Reply reply) = length-set (m .records) _ _
 moves-served : (r : Record) → Moves r (servedRecord r) (pieceLength (nextPiece r)) 0
 moves-served r =
     record {
-      program = refl; reserved = refl; stop = refl;
+      program = refl;
+      reserved = refl;
+      stop = refl;
       running = running-left (r .flags .running) _;
       sent = refl;
       landed = omega arith;
@@ -148,11 +152,11 @@ pub served-record : (m : Mean) (c : ℕ) (o : Option Channel) → c < length (m 
 served-record m c None within = moves-none (recordOf m c)
 served-record m c (Some d) within =
     cond-both (eqb (d .0) c) (pieceLength (nextPiece (recordOf m (d .0)))) 0 (λ n. Moves (recordOf m c) (recordOf (served m (Some d)) c) n 0)
-      (λ same.
-        let here = eqb-true (d .0) c same in
-        subst (λ (x : Record). Moves (recordOf m c) x (pieceLength (nextPiece (recordOf m (d .0)))) 0) (sym (record-here m (served m (Some d)) c (d .0) _ refl within here))
-          (subst (λ (k : ℕ). Moves (recordOf m k) (servedRecord (recordOf m (d .0))) (pieceLength (nextPiece (recordOf m (d .0)))) 0) here (moves-served (recordOf m (d .0)))))
-      (λ apart. subst (λ (x : Record). Moves (recordOf m c) x 0 0) (sym (record-other m (served m (Some d)) c (d .0) _ refl (eqb-false _ _ apart))) (moves-none (recordOf m c)))
+    (λ same.
+    let here = eqb-true (d .0) c same in
+    subst (λ (x : Record). Moves (recordOf m c) x (pieceLength (nextPiece (recordOf m (d .0)))) 0) (sym (record-here m (served m (Some d)) c (d .0) _ refl within here))
+    (subst (λ (k : ℕ). Moves (recordOf m k) (servedRecord (recordOf m (d .0))) (pieceLength (nextPiece (recordOf m (d .0)))) 0) here (moves-served (recordOf m (d .0)))))
+    (λ apart. subst (λ (x : Record). Moves (recordOf m c) x 0 0) (sym (record-other m (served m (Some d)) c (d .0) _ refl (eqb-false _ _ apart))) (moves-none (recordOf m c)))
 
 -- THE CHANNEL THAT IS SERVED
 
@@ -209,10 +213,10 @@ serves m v flight t d sound is =
     let mid = landed m flight t in
     let kept = lines-kept m flight t in
     let in-line = chosen-in-line (mid .singles) (mid .blocks) (mid .afterSingle) d (subst ChannelsFit (sym (kept .0)) (sound .singles-fit)) (subst ChannelsFit (sym (kept .1)) (sound .blocks-fit))
-          (chosen-if (ltb (length (mid .flight)) 4) _ d is) in
+    (chosen-if (ltb (length (mid .flight)) 4) _ d is) in
     let line : 0 < times (d .0) (m .singles) + times (d .0) (m .blocks) =
-          subst (λ (l : List Channel). 0 < times (d .0) l + times (d .0) (m .blocks)) (kept .0)
-            (subst (λ (l : List Channel). 0 < times (d .0) (mid .singles) + times (d .0) l) (kept .1) (in-line .1)) in
+    subst (λ (l : List Channel). 0 < times (d .0) l + times (d .0) (m .blocks)) (kept .0)
+    (subst (λ (l : List Channel). 0 < times (d .0) (mid .singles) + times (d .0) l) (kept .1) (in-line .1)) in
     let channel = sound .channels (d .0) (in-line .0) in
     record {
       below = in-line .0;

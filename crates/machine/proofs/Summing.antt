@@ -76,12 +76,12 @@ begun-under o a c (e ∷ h) b (here, only) is names = go (starts e) here is (λ 
     go None under is earlier = earlier is
     go (Some q) under is earlier =
         ⊎-elim
-          (λ same.
-            let now : Some (record { program = q .program; at = e .after }) ≡ Some b = sym (cond-true (eqb (q .channel) c) _ _ same) ∙ is in
-            let program : q .program ≡ b .program = cc in
-            subst (λ (p : Stored). Under o (p .mode)) program (under (subst (λ (p : Stored). Names p a) (sym program) names)))
-          (λ other. earlier (sym (cond-false (eqb (q .channel) c) _ _ other) ∙ is))
-          (cases-bool (eqb (q .channel) c))
+        (λ same.
+        let now : Some (record { program = q .program; at = e .after }) ≡ Some b = sym (cond-true (eqb (q .channel) c) _ _ same) ∙ is in
+        let program : q .program ≡ b .program = cc in
+        subst (λ (p : Stored). Under o (p .mode)) program (under (subst (λ (p : Stored). Names p a) (sym program) names)))
+        (λ other. earlier (sym (cond-false (eqb (q .channel) c) _ _ other) ∙ is))
+        (cases-bool (eqb (q .channel) c))
 
 -- REQUESTS
 
@@ -94,7 +94,7 @@ cell-sent q v w a below sends = sends .cells a below ∙ cond-false _ _ _ (accep
 
 -- what one request leaves of a cell
 cell-joined : (o : Choice) (mode : Mode) (x : ℕ) (here : Bool) (cell : Option ℕ) → (here ≡ true → Under o mode)
-  → cond here (mapped (wordAfter (sending mode x)) cell) cell ≡ after o (cond (joins mode && here) (x ∷ []) []) cell
+    → cond here (mapped (wordAfter (sending mode x)) cell) cell ≡ after o (cond (joins mode && here) (x ∷ []) []) cell
 cell-joined o Load x true cell under = refl
 cell-joined o Store x true cell under = absurd (under refl)
 cell-joined o (Mp p) x true cell under = ap (λ (q : Choice). mapped (λ y. joinBy q y x) cell) (under refl)
@@ -112,36 +112,36 @@ cell-named : (q : Stored) (p i : ℕ) → p ≡ q .first + i → (q .cell + (p -
 cell-named q p i is = let e : p - q .first ≡ i = omega arith in ap (λ (k : ℕ). (q .cell + k) % 2 ^ 32) e
 
 request-sent : (o : Choice) (a : ℕ) → a < 2 ^ 32 → (c : ℕ) (b : Begun) (r : Record) → r .program ≡ b .program → (p i : ℕ) → p ≡ b .program .first + i
-  → wordSent r p ≡ wordOf c b i → (cellAt (b .program) i ≡ a → Under o (b .program .mode))
-  → (v w : View) → Sends (requestAt r p) (Ok tt) v w → w .cell a ≡ after o (cond (joins (b .program .mode) && eqb (cellAt (b .program) i) a) (wordOf c b i ∷ []) []) (v .cell a)
+    → wordSent r p ≡ wordOf c b i → (cellAt (b .program) i ≡ a → Under o (b .program .mode))
+    → (v w : View) → Sends (requestAt r p) (Ok tt) v w → w .cell a ≡ after o (cond (joins (b .program .mode) && eqb (cellAt (b .program) i) a) (wordOf c b i ∷ []) []) (v .cell a)
 request-sent o a below c b r program p i is word under v w sends =
     let at : requestAt r p .cell .0 ≡ cellAt (b .program) i = ap (λ (q : Stored). (q .cell + (p - q .first)) % 2 ^ 32) program ∙ cell-named (b .program) p i is in
     let here : eqb a (requestAt r p .cell .0) ≡ eqb (cellAt (b .program) i) a = eqb-turned a (requestAt r p .cell .0) ∙ ap (λ (k : ℕ). eqb k a) at in
     cell-sent (requestAt r p) v w a below sends
-      ∙ ap (λ (x : Bool). cond x (mapped (wordAfter (sending (r .program .mode) (wordSent r p))) (v .cell a)) (v .cell a)) here
-      ∙ ap (λ (q : Stored). cond (eqb (cellAt (b .program) i) a) (mapped (wordAfter (sending (q .mode) (wordSent r p))) (v .cell a)) (v .cell a)) program
-      ∙ ap (λ (x : ℕ). cond (eqb (cellAt (b .program) i) a) (mapped (wordAfter (sending (b .program .mode) x)) (v .cell a)) (v .cell a)) word
-      ∙ cell-joined o (b .program .mode) (wordOf c b i) (eqb (cellAt (b .program) i) a) (v .cell a) (λ e. under (eqb-true (cellAt (b .program) i) a e))
+    ∙ ap (λ (x : Bool). cond x (mapped (wordAfter (sending (r .program .mode) (wordSent r p))) (v .cell a)) (v .cell a)) here
+    ∙ ap (λ (q : Stored). cond (eqb (cellAt (b .program) i) a) (mapped (wordAfter (sending (q .mode) (wordSent r p))) (v .cell a)) (v .cell a)) program
+    ∙ ap (λ (x : ℕ). cond (eqb (cellAt (b .program) i) a) (mapped (wordAfter (sending (b .program .mode) x)) (v .cell a)) (v .cell a)) word
+    ∙ cell-joined o (b .program .mode) (wordOf c b i) (eqb (cellAt (b .program) i) a) (v .cell a) (λ e. under (eqb-true (cellAt (b .program) i) a e))
 
 requests-sent : (o : Choice) (a : ℕ) → a < 2 ^ 32 → (c : ℕ) (b : Begun) (r : Record) → r .program ≡ b .program → (n p i : ℕ) → p ≡ b .program .first + i
-  → ((k : ℕ) → i ≤ k → k < i + n → wordSent r (b .program .first + k) ≡ wordOf c b k)
-  → ((k : ℕ) → i ≤ k → k < i + n → cellAt (b .program) k ≡ a → Under o (b .program .mode))
-  → (v w : View) → SentAll (requestsFrom r n p) v w → w .cell a ≡ after o (wordsFrom c b a n i) (v .cell a)
+    → ((k : ℕ) → i ≤ k → k < i + n → wordSent r (b .program .first + k) ≡ wordOf c b k)
+    → ((k : ℕ) → i ≤ k → k < i + n → cellAt (b .program) k ≡ a → Under o (b .program .mode))
+    → (v w : View) → SentAll (requestsFrom r n p) v w → w .cell a ≡ after o (wordsFrom c b a n i) (v .cell a)
 requests-sent o a below c b r program zero p i is words under v w same = ap (λ (x : View). x .cell a) same ∙ mapped-same (v .cell a)
 requests-sent o a below c b r program (suc n) p i is words under v w (mid, (sends, rest)) =
     requests-sent o a below c b r program n (p + 1) (i + 1) (omega arith) (λ k low high. words k (omega arith) (omega arith)) (λ k low high. under k (omega arith) (omega arith)) mid w rest
-      ∙ ap (after o (wordsFrom c b a n (i + 1)))
-        (request-sent o a below c b r program p i is (ap (wordSent r) is ∙ words i (omega arith) (omega arith)) (under i (omega arith) (omega arith)) v mid sends)
-      ∙ after-append o (wordsFrom c b a n (i + 1)) _ (v .cell a)
+    ∙ ap (after o (wordsFrom c b a n (i + 1)))
+    (request-sent o a below c b r program p i is (ap (wordSent r) is ∙ words i (omega arith) (omega arith)) (under i (omega arith) (omega arith)) v mid sends)
+    ∙ after-append o (wordsFrom c b a n (i + 1)) _ (v .cell a)
 
 piece-within : (r : Record) (k : ℕ) → r .program .first ≤ r .program .last → r .counts .sent ≤ r .program .last - r .program .first
-  → k < r .counts .sent + pieceLength (nextPiece r) → k ≤ r .program .last - r .program .first
+    → k < r .counts .sent + pieceLength (nextPiece r) → k ≤ r .program .last - r .program .first
 piece-within r k ordered unsent high = omega (arith, min-le-right (boundary (r .program .first + r .counts .sent)) (r .program .last))
 
 -- the requests of one service leave the cell joined with the words that they sent to it
 service-joined : (o : Choice) (a : ℕ) → a < 2 ^ 32 → (h : History) (m mid : Mean) (v w : View) (d lands : ℕ) → OnlyUnder o a h
-  → ChannelSound m d → Serves m d → Link d h (recordOf m d) → Landed (recordOf m d) (recordOf mid d) lands
-  → SentAll (requests (recordOf mid d)) v w → w .cell a ≡ after o (wordsOf d (begun d h) a (pieceLength (nextPiece (recordOf mid d))) (sentCount d h)) (v .cell a)
+    → ChannelSound m d → Serves m d → Link d h (recordOf m d) → Landed (recordOf m d) (recordOf mid d) lands
+    → SentAll (requests (recordOf mid d)) v w → w .cell a ≡ after o (wordsOf d (begun d h) a (pieceLength (nextPiece (recordOf mid d))) (sentCount d h)) (v .cell a)
 service-joined o a below h m mid v w d lands only sound serving link now sends =
     let r = recordOf m d in
     let q = recordOf mid d in
@@ -159,32 +159,32 @@ service-joined o a below h m mid v w d lands only sound serving link now sends =
     let unsent : q .counts .sent ≤ q .program .last - q .program .first = let e = serving .unsent in omega arith in
     let inside : (k : ℕ) → k < q .counts .sent + pieceLength (nextPiece q) → k ≤ b .program .last - b .program .first = λ k high. let e = piece-within q k ordered unsent high in omega arith in
     requests-sent o a below d b q program (pieceLength (nextPiece q)) (q .program .first + q .counts .sent) (q .counts .sent) (ap (λ (x : ℕ). x + q .counts .sent) first)
-        (λ k low high. word-sent d b r q lands (serving .below) alone now k low (let e = inside k high in omega arith))
-        (λ k low high named. begun-under o a d h b only (begins .1) (k, inside k high, named))
-        v w sends
-      ∙ ap (λ (i : ℕ). after o (wordsFrom d b a (pieceLength (nextPiece q)) i) (v .cell a)) (sent ∙ link .sent)
-      ∙ ap (λ (x : Option Begun). after o (wordsOf d x a (pieceLength (nextPiece q)) (sentCount d h)) (v .cell a)) (sym (begins .1))
+    (λ k low high. word-sent d b r q lands (serving .below) alone now k low (let e = inside k high in omega arith))
+    (λ k low high named. begun-under o a d h b only (begins .1) (k, inside k high, named))
+    v w sends
+    ∙ ap (λ (i : ℕ). after o (wordsFrom d b a (pieceLength (nextPiece q)) i) (v .cell a)) (sent ∙ link .sent)
+    ∙ ap (λ (x : Option Begun). after o (wordsOf d x a (pieceLength (nextPiece q)) (sentCount d h)) (v .cell a)) (sym (begins .1))
 
 taken-cell : (flight : List Piece) (t : Taken) (v w : View) (a : ℕ) → a < 2 ^ 32 → TakenOnce flight t v w → w .cell a ≡ v .cell a
 taken-cell [] t v w a below (nothing, same) = ap (λ (x : View). x .cell a) same
 taken-cell (p ∷ ps) t v w a below takes = takes .cells a below
 
 served-joined : (o : Choice) (a : ℕ) → a < 2 ^ 32 → (h : History) (m : Mean) (v between w : View) (t : Taken) (d : Option Channel) → OnlyUnder o a h → Sound m v → Linked h m
-  → serviced (landed m (m .flight) t) ≡ d → SentAll (requested (landed m (m .flight) t) d) between w
-  → w .cell a ≡ after o (wordsBy (service (landed m (m .flight) t) d) a h) (between .cell a)
+    → serviced (landed m (m .flight) t) ≡ d → SentAll (requested (landed m (m .flight) t) d) between w
+    → w .cell a ≡ after o (wordsBy (service (landed m (m .flight) t) d) a h) (between .cell a)
 served-joined o a below h m v between w t None only sound linked is same = ap (λ (x : View). x .cell a) same ∙ mapped-same (between .cell a)
 served-joined o a below h m v between w t (Some d) only sound linked is sends =
     let serving = serves m v (m .flight) t d sound is in
     service-joined o a below h m (landed m (m .flight) t) between w (d .0) _ only (sound .channels (d .0) (serving .below)) serving (linked (d .0) (serving .below))
-      (landed-record m v (d .0) (m .flight) t sound (serving .below) refl) sends
+    (landed-record m v (d .0) (m .flight) t sound (serving .below) refl) sends
 
 turn-joined : (o : Choice) (a : ℕ) → a < 2 ^ 32 → (h : History) (t : Turned) (m n : Mean) (v w : View) → OnlyUnder o a h → Sound m v → Linked h m → Turns t m n v w
-  → w .cell a ≡ after o (wordsBy (t .service) a h) (v .cell a)
+    → w .cell a ≡ after o (wordsBy (t .service) a h) (v .cell a)
 turn-joined o a below h t m n v w only sound linked turns =
     let mid = landed m (m .flight) (turns .answered) in
     served-joined o a below h m v (turns .between) w (turns .answered) (serviced mid) only sound linked refl (turns .sends)
-      ∙ ap (after o (wordsBy (service mid (serviced mid)) a h)) (taken-cell (m .flight) (turns .answered) v (turns .between) a below (turns .takes))
-      ∙ ap (λ (x : Service). after o (wordsBy x a h) (v .cell a)) (sym (turns .service-is))
+    ∙ ap (after o (wordsBy (service mid (serviced mid)) a h)) (taken-cell (m .flight) (turns .answered) v (turns .between) a below (turns .takes))
+    ∙ ap (λ (x : Service). after o (wordsBy x a h) (v .cell a)) (sym (turns .service-is))
 
 -- every other call leaves the cells alone and sends nothing
 still : (o : Choice) (a : ℕ) (h : History) (b c : Answer) (v w : View) → b ≡ c → wordsIn c a h ≡ [] → w ≡ v → w .cell a ≡ after o (wordsIn b a h) (v .cell a)
@@ -205,7 +205,7 @@ none-given a h (Err f) = refl
 
 -- one step joins the cell with the words that its answer tells
 step-joined : (o : Choice) (a : ℕ) → a < 2 ^ 32 → (call : Call) (h : History) (b : Answer) (m n : Mean) (v w : View) → OnlyUnder o a h → Sound m v → Linked h m → Step call b m v n w
-  → w .cell a ≡ after o (wordsIn b a h) (v .cell a)
+    → w .cell a ≡ after o (wordsIn b a h) (v .cell a)
 step-joined o a below reserve h b m n v w only sound linked (is, _, same) = still o a h b _ v w is (none-given a h _) same
 step-joined o a below (release c) h b m n v w only sound linked (is, _, same) = still o a h b _ v w is (none-done a h _) same
 step-joined o a below (put c p x) h b m n v w only sound linked (is, _, same) = still o a h b _ v w is (none-done a h _) same
@@ -221,12 +221,12 @@ step-joined o a below turn h b m n v w only sound linked (t, is, turns) =
 
 -- over a run from a new mover
 cell-summed : (opening : View) → SoundRuns opening → (a : ℕ) → a < 2 ^ 32 → (o : Choice)
-  → {h : History} {m : Mean} {v : View} → Run newMean opening h m v → OnlyUnder o a h → v .cell a ≡ after o (wordsSent a h) (opening .cell a)
+    → {h : History} {m : Mean} {v : View} → Run newMean opening h m v → OnlyUnder o a h → v .cell a ≡ after o (wordsSent a h) (opening .cell a)
 cell-summed opening sound a below o begin only = mapped-same (opening .cell a)
 cell-summed opening sound a below o (next {h} {m} {n} {v} {w} {c} {a = b} run step) (here, only) =
     step-joined o a below c h b m n v w only (sound h m v run) (linked opening sound run) step
-      ∙ ap (after o (wordsIn b a h)) (cell-summed opening sound a below o run only)
-      ∙ after-append o (wordsIn b a h) (wordsSent a h) (opening .cell a)
+    ∙ ap (after o (wordsIn b a h)) (cell-summed opening sound a below o run only)
+    ∙ after-append o (wordsIn b a h) (wordsSent a h) (opening .cell a)
 
 -- B. The cell holds its opening word joined with every word sent to it
 pub summed : (opening : View) → SoundRuns opening → {h : History} {m : Mean} {v : View} → Run newMean opening h m v → Summed (seen newMean opening) h

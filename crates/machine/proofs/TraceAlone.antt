@@ -53,7 +53,7 @@ pub dues-head : (p : Piece) (rest : List Piece) → 1 ≤ p .due → dues (p ∷
 dues-head p rest some = go (p .due) some
   where
     go : (n : ℕ) → 1 ≤ n → dueFrom n (p .channel .0) (p .next .0) ++ dues rest
-      ≡ record { channel = p .channel .0; place = p .next .0 } ∷ dues (cond (eqb n 1) rest (record { channel = p .channel; next = record { 0 = p .next .0 + 1 }; due = n - 1; last = p .last } ∷ rest))
+        ≡ record { channel = p .channel .0; place = p .next .0 } ∷ dues (cond (eqb n 1) rest (record { channel = p .channel; next = record { 0 = p .next .0 + 1 }; due = n - 1; last = p .last } ∷ rest))
     go zero h = absurd (omega arith)
     go (suc zero) h = refl
     go (suc (suc n)) h =
@@ -73,7 +73,7 @@ still-due false sent landed h = absurd (omega arith)
 
 -- it goes to the place behind those that have landed
 pub head-due : (m : Mean) (c : ℕ) (d : Due) (ds : List Due) → ChannelSound m c → dues (m .flight) ≡ d ∷ ds → d .channel ≡ c
-  → (d .place ≡ recordOf m c .program .first + recordOf m c .counts .landed) × (recordOf m c .counts .landed < recordOf m c .counts .sent)
+    → (d .place ≡ recordOf m c .program .first + recordOf m c .counts .landed) × (recordOf m c .counts .landed < recordOf m c .counts .sent)
 head-due m c d ds sound split same =
     let here : placesDue c (d ∷ ds) ≡ d .place ∷ placesDue c ds = cond-true _ _ _ (eq-eqb _ _ same) in
     let both = count-head (d .place) (placesDue c ds) (stillDue (recordOf m c)) (recordOf m c .program .first + recordOf m c .counts .landed) (sym here ∙ ap (placesDue c) (sym split) ∙ sound .due) in
@@ -91,43 +91,47 @@ tied-tail : (w : Option ℕ) (ys xs : List (Option ℕ)) (d : Due) (ds : List Du
 tied-tail w ys xs d ds e long = let z = ap length e in omega arith
 
 pub land-other : (c : ℕ) (b : Begun) (r : Record) (w : Option ℕ) (v x : View) (d : Due) (ds : List Due) → Lands w v x → Ready c b r v (d ∷ ds) → Alone c b r v (d ∷ ds)
-  → Ready c b r x ds × Alone c b r x ds
-land-other c b r w v x d ds lands ready alone =
-    ( record { program = ready .program; words = ready .words; tied = tied-tail w (v .transit) (x .transit) d ds (lands .transit) (ready .tied) }
-    , record {
-        held = alone .held;
-        cells = λ i h. lands .cells _ (cell-small (b .program) i) ∙ alone .cells i h;
-        replies = replies-tail c (startWord b) w (v .transit) (x .transit) d ds (lands .transit) (alone .replies) .1;
-      } )
+    → Ready c b r x ds × Alone c b r x ds
+land-other c b r w v x d ds lands ready alone = (
+  record { program = ready .program; words = ready .words; tied = tied-tail w (v .transit) (x .transit) d ds (lands .transit) (ready .tied) },
+  record {
+    held = alone .held;
+    cells = λ i h. lands .cells _ (cell-small (b .program) i) ∙ alone .cells i h;
+    replies = replies-tail c (startWord b) w (v .transit) (x .transit) d ds (lands .transit) (alone .replies) .1;
+  },
+)
 
 pub land-own : (c : ℕ) (b : Begun) (r : Record) (p : Piece) (w : Option ℕ) (v x : View) (d : Due) (ds : List Due)
-  → d .channel ≡ c → d .place ≡ p .next .0 → d .place ≡ r .program .first + r .counts .landed → r .counts .landed < r .counts .sent → d .place < length (r .window)
-  → Lands w v x → Ready c b r v (d ∷ ds) → Alone c b r v (d ∷ ds) → Ready c b (landedRecord p w r) x ds × Alone c b (landedRecord p w r) x ds
+    → d .channel ≡ c → d .place ≡ p .next .0 → d .place ≡ r .program .first + r .counts .landed → r .counts .landed < r .counts .sent → d .place < length (r .window)
+    → Lands w v x → Ready c b r v (d ∷ ds) → Alone c b r v (d ∷ ds) → Ready c b (landedRecord p w r) x ds × Alone c b (landedRecord p w r) x ds
 land-own c b r p w v x d ds mine next place fewer inside lands ready alone =
     let before = land-other c b r w v x d ds lands ready alone in
     let start : b .program .first ≡ r .program .first = ap (λ (s : Stored). s .first) (sym (ready .program)) in
     let here : w ≡ startWord b (d .place) = replies-tail c (startWord b) w (v .transit) (x .transit) d ds (lands .transit) (alone .replies) .0 mine in
-    let at : p .next .0 ≡ b .program .first + r .counts .landed = go (p .next .0) (d .place) (b .program .first) (r .program .first) (r .counts .landed) next place start in
-    ( record {
+    let at : p .next .0 ≡ b .program .first + r .counts .landed = go (p .next .0) (d .place) (b .program .first) (r .program .first) (r .counts .landed) next place start in (
+      record {
         program = ready .program;
         words = λ i h k. ap (λ (o : Option ℕ). cond (r .program .single) (r .program .word) (valueOr o 0))
-          (getD-set-other (r .window) (p .next .0) (b .program .first + i) w None (λ e. apart (p .next .0) (b .program .first) i (r .counts .landed) (r .counts .sent) at h fewer e))
-          ∙ ready .words i h k;
+            (getD-set-other (r .window) (p .next .0) (b .program .first + i) w None (λ e. apart (p .next .0) (b .program .first) i (r .counts .landed) (r .counts .sent) at h fewer e))
+            ∙ ready .words i h k;
         tied = before .0 .tied;
-      }
-    , record {
+      },
+      record {
         held = λ q from to. ⊎-elim
-          (λ (same : q ≡ p .next .0). ap (λ (n : ℕ). getD (set (r .window) (p .next .0) w) n None) same ∙ getD-set-same (r .window) (p .next .0) w None (subst (λ (n : ℕ). n < length (r .window)) next inside)
+            (λ (same : q ≡ p .next .0). ap (λ (n : ℕ). getD (set (r .window) (p .next .0) w) n None) same ∙ getD-set-same (r .window) (p .next .0) w None (subst (λ (n : ℕ). n < length (r .window)) next inside)
             ∙ here ∙ ap (startWord b) (next ∙ sym same))
-          (λ (other : q ≡ p .next .0 → ⊥). getD-set-other (r .window) (p .next .0) q w None other ∙ alone .held q from (less q (p .next .0) (b .program .first) (r .counts .landed) to at other))
-          (cases-eq q (p .next .0));
+            (λ (other : q ≡ p .next .0 → ⊥). getD-set-other (r .window) (p .next .0) q w None other ∙ alone .held q from (less q (p .next .0) (b .program .first) (r .counts .landed) to at other))
+            (cases-eq q (p .next .0));
         cells = before .1 .cells;
         replies = before .1 .replies;
-      } )
+      },
+    )
   where
     go : (n d f g l : ℕ) → d ≡ n → d ≡ g + l → f ≡ g → n ≡ f + l
     go n d f g l h i j = omega arith
+
     apart : (n f i l s : ℕ) → n ≡ f + l → s ≤ i → l < s → f + i ≡ n → ⊥
     apart n f i l s h j k e = omega arith
+
     less : (q n f l : ℕ) → q < f + (l + 1) → n ≡ f + l → (q ≡ n → ⊥) → q < f + l
     less q n f l h e other = omega arith

@@ -43,12 +43,12 @@ use Rattle.machine.proofs.TraceTurn.{Free, alone-turn}
 set-either : (rs : List Record) (k d : ℕ) (r : Record) → ((k ≡ d) × (getD (set rs k r) d absent ≡ r)) ⊎ (getD (set rs k r) d absent ≡ getD rs d absent)
 set-either rs k d r =
     ⊎-elim
-      (λ (same : k ≡ d). ⊎-elim
-        (λ (inside : d < length rs). inl (same, (ap (λ (j : ℕ). getD (set rs j r) d absent) same ∙ getD-set-same rs d r absent inside)))
-        (λ (past : length rs ≤ d). inr (ap (λ (j : ℕ). getD (set rs j r) d absent) same ∙ ap (λ (l : List Record). getD l d absent) (set-past rs d r past)))
-        (cases-lt d (length rs)))
-      (λ (other : k ≡ d → ⊥). inr (getD-set-other rs k d r absent (λ e. other (sym e))))
-      (cases-eq k d)
+    (λ (same : k ≡ d). ⊎-elim
+    (λ (inside : d < length rs). inl (same, (ap (λ (j : ℕ). getD (set rs j r) d absent) same ∙ getD-set-same rs d r absent inside)))
+    (λ (past : length rs ≤ d). inr (ap (λ (j : ℕ). getD (set rs j r) d absent) same ∙ ap (λ (l : List Record). getD l d absent) (set-past rs d r past)))
+    (cases-lt d (length rs)))
+    (λ (other : k ≡ d → ⊥). inr (getD-set-other rs k d r absent (λ e. other (sym e))))
+    (cases-eq k d)
 
 kept-field : {X : Type 0} (g : Record → X) (rs : List Record) (k d : ℕ) (r : Record) → g r ≡ g (getD rs k absent) → g (getD (set rs k r) d absent) ≡ g (getD rs d absent)
 kept-field g rs k d r same =
@@ -79,11 +79,11 @@ still-unless c (Some f) m n accepted = still-same c m m refl
 alone-still : (c : ℕ) (b : Begun) (m n : Mean) (v w : View) → Still c m n → w ≡ v → Alone c b (recordOf m c) v (dues (m .flight)) → Alone c b (recordOf n c) w (dues (n .flight))
 alone-still c b m n v w still same alone =
     subst (λ (x : View). Alone c b (recordOf n c) x (dues (n .flight))) (sym same)
-      (record {
-        held = λ p from to. ap (λ (l : List (Option ℕ)). getD l p None) (still .window) ∙ alone .held p from (subst (λ (k : ℕ). p < b .program .first + k) (still .landed) to);
-        cells = λ i h. alone .cells i h ∙ ap (λ (k : ℕ). cellAlone c b k i) (sym (still .sent));
-        replies = subst (λ (l : List Piece). Replies c (startWord b) (v .transit) (dues l)) (sym (still .flight)) (alone .replies);
-      })
+    (record {
+      held = λ p from to. ap (λ (l : List (Option ℕ)). getD l p None) (still .window) ∙ alone .held p from (subst (λ (k : ℕ). p < b .program .first + k) (still .landed) to);
+      cells = λ i h. alone .cells i h ∙ ap (λ (k : ℕ). cellAlone c b k i) (sym (still .sent));
+      replies = subst (λ (l : List Piece). Replies c (startWord b) (v .transit) (dues l)) (sym (still .flight)) (alone .replies);
+    })
 
 -- a call on a channel that leaves another one's window alone is on a channel of its own
 not-there : (d c : ℕ) (a : Answer) (o : Refused) → a ≡ doneUnless o → (eqb d c && accepted a) ≡ false → o ≡ None → d ≡ c → ⊥
@@ -97,7 +97,7 @@ free-is [] k e = refl
 free-is (r ∷ rs) k e = go (r .flags .reserved) refl (lowestFree rs) k e (free-is rs)
   where
     go : (b : Bool) → r .flags .reserved ≡ b → (o : Option ℕ) (k : ℕ) → cond b (mapped suc o) (Some 0) ≡ Some k → ((j : ℕ) → o ≡ Some j → getD rs j absent .flags .reserved ≡ false)
-      → getD (r ∷ rs) k absent .flags .reserved ≡ false
+        → getD (r ∷ rs) k absent .flags .reserved ≡ false
     go false is o k e later = let z : k ≡ 0 = cc in ap (λ (j : ℕ). getD (r ∷ rs) j absent .flags .reserved) z ∙ is
     go true is None k e later = absurd (let z : _≡_ {A = ℕ} 0 1 = cc in omega arith)
     go true is (Some j) k e later = let z : k ≡ suc j = cc in ap (λ (j : ℕ). getD (r ∷ rs) j absent .flags .reserved) z ∙ later j refl
@@ -108,16 +108,16 @@ still-reserve c m held = go (lowestFree (m .records)) refl
     go : (o : Option ℕ) → lowestFree (m .records) ≡ o → Still c m (elim o [ None ↦ m | Some k ↦ withRecord m k (cleared true emptyWindow) ])
     go None e = still-same c m m refl
     go (Some k) e = still-other c k m (withRecord m k (cleared true emptyWindow)) (cleared true emptyWindow) refl refl
-      (λ same. both-ways (recordOf m c .flags .reserved) (subst (λ (j : ℕ). recordOf m j .flags .reserved ≡ false) same (free-is (m .records) k e)) held)
+        (λ same. both-ways (recordOf m c .flags .reserved) (subst (λ (j : ℕ). recordOf m j .flags .reserved ≡ false) same (free-is (m .records) k e)) held)
 
 still-start : (c d : ℕ) (words : Words) (a : Answer) (m : Mean) → a ≡ doneUnless (startRefused m d words) → startsOn c (startIn (start d words) (accepted a)) ≡ false
-  → startRefused m d words ≡ None → Still c m (startState m d words)
+    → startRefused m d words ≡ None → Still c m (startState m d words)
 still-start c d words a m answered elsewhere none =
     let ok : accepted a ≡ true = ap accepted answered ∙ ap (λ (x : Refused). accepted (doneUnless x)) none in
     go (readProgram words) (subst (λ (t : Bool). startsOn c (cond t (startOf d (programOf words)) None) ≡ false) ok elsewhere)
   where
     go : (r : Result Program ProgramFault) → startsOn c (startOf d (elim r [ Ok p ↦ Some (stored p) | Err f ↦ None ])) ≡ false
-      → Still c m (elim r [ Ok p ↦ startProgram m d (stored p) | Err f ↦ m ])
+        → Still c m (elim r [ Ok p ↦ startProgram m d (stored p) | Err f ↦ m ])
     go (Ok p) other = still-other c d m (startProgram m d (stored p)) (started (stored p) (recordOf m d .window)) refl refl (eqb-false d c other)
     go (Err f) other = still-same c m m refl
 
@@ -135,8 +135,8 @@ still-quiet c m b = record { sent = refl; landed = refl; window = refl; flight =
 
 -- a step that starts no program on the channel and leaves its window alone
 pub alone-step : (call : Call) (a : Answer) (m n : Mean) (v w : View) (c : ℕ) (b : Begun) → c < 16 → Step call a m v n w → Sound m v → Free c b m
-  → recordOf m c .flags .reserved ≡ true → startsOn c (startIn call (accepted a)) ≡ false → touchesBy c call a ≡ false
-  → Ready c b (recordOf m c) v (dues (m .flight)) → Alone c b (recordOf m c) v (dues (m .flight)) → Alone c b (recordOf n c) w (dues (n .flight))
+    → recordOf m c .flags .reserved ≡ true → startsOn c (startIn call (accepted a)) ≡ false → touchesBy c call a ≡ false
+    → Ready c b (recordOf m c) v (dues (m .flight)) → Alone c b (recordOf m c) v (dues (m .flight)) → Alone c b (recordOf n c) w (dues (n .flight))
 alone-step reserve a m n v w c b small (_, is, same) sound free held elsewhere left ready = alone-still c b m n v w (subst (Still c m) (sym is) (still-reserve c m held)) same
 alone-step (release d) a m n v w c b small (answered, is, same) sound free held elsewhere left ready =
     alone-still c b m n v w (subst (Still c m) (sym is) (still-unless c (releaseRefused m d) m (releaseState m d) (λ none. still-other c d m (releaseState m d) _ refl refl (not-there d c a (releaseRefused m d) answered left none)))) same
@@ -167,9 +167,9 @@ ran-set : (d k : ℕ) (m n : Mean) (r : Record) → n .records ≡ set (m .recor
 ran-set d k m n r records before runs =
     let after : getD (set (m .records) k r) d absent .flags .running ≡ true = subst (λ (l : List Record). getD l d absent .flags .running ≡ true) records runs in
     ⊎-elim
-      (λ e. subst (λ (j : ℕ). recordOf m j .flags .running ≡ true) (e .0) (before (subst (λ (o : Record). o .flags .running ≡ true) (e .1) after)))
-      (λ e. subst (λ (o : Record). o .flags .running ≡ true) e after)
-      (set-either (m .records) k d r)
+    (λ e. subst (λ (j : ℕ). recordOf m j .flags .running ≡ true) (e .0) (before (subst (λ (o : Record). o .flags .running ≡ true) (e .1) after)))
+    (λ e. subst (λ (o : Record). o .flags .running ≡ true) e after)
+    (set-either (m .records) k d r)
 
 never : {A : Type 0} → false ≡ true → A
 never e = absurd (let z : _≡_ {A = ℕ} 0 1 = cc in omega arith)
@@ -186,15 +186,15 @@ ran-reserve d m = go (lowestFree (m .records))
     go (Some k) = ran-set d k m (withRecord m k (cleared true emptyWindow)) (cleared true emptyWindow) refl never
 
 ran-start : (d k : ℕ) (words : Words) (a : Answer) (m : Mean) → a ≡ doneUnless (startRefused m k words) → startsOn d (startIn (start k words) (accepted a)) ≡ false
-  → startRefused m k words ≡ None → Ran d m (startState m k words)
+    → startRefused m k words ≡ None → Ran d m (startState m k words)
 ran-start d k words a m answered elsewhere none =
     let ok : accepted a ≡ true = ap accepted answered ∙ ap (λ (x : Refused). accepted (doneUnless x)) none in
     go (readProgram words) (subst (λ (t : Bool). startsOn d (cond t (startOf k (programOf words)) None) ≡ false) ok elsewhere)
   where
     go : (r : Result Program ProgramFault) → startsOn d (startOf k (elim r [ Ok p ↦ Some (stored p) | Err f ↦ None ])) ≡ false
-      → Ran d m (elim r [ Ok p ↦ startProgram m k (stored p) | Err f ↦ m ])
+        → Ran d m (elim r [ Ok p ↦ startProgram m k (stored p) | Err f ↦ m ])
     go (Ok p) other = λ runs. subst (λ (o : Record). o .flags .running ≡ true)
-      (getD-set-other (m .records) k d (started (stored p) (recordOf m k .window)) absent (λ e. eqb-false k d other (sym e))) runs
+        (getD-set-other (m .records) k d (started (stored p) (recordOf m k .window)) absent (λ e. eqb-false k d other (sym e))) runs
     go (Err f) other = λ runs. runs
 
 ran-landed : (d : ℕ) (m : Mean) (fl : List Piece) (t : Taken) → Ran d m (landed m fl t)
@@ -210,7 +210,7 @@ ran-served d m (Some c) =
     ran-set d (c .0) m (served m (Some c)) (servedRecord (recordOf m (c .0))) refl (λ runs. and-parts (recordOf m (c .0) .flags .running) _ runs .0)
 
 pub ran-step : (call : Call) (a : Answer) (m n : Mean) (v w : View) (d : ℕ) → Step call a m v n w → startsOn d (startIn call (accepted a)) ≡ false
-  → recordOf n d .flags .running ≡ true → recordOf m d .flags .running ≡ true
+    → recordOf n d .flags .running ≡ true → recordOf m d .flags .running ≡ true
 ran-step reserve a m n v w d (_, is, _) elsewhere = subst (Ran d m) (sym is) (ran-reserve d m)
 ran-step (release k) a m n v w d (_, is, _) elsewhere =
     subst (Ran d m) (sym is) (ran-unless d (releaseRefused m k) m (releaseState m k) (λ _. ran-set d k m (releaseState m k) _ refl never))

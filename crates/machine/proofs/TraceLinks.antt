@@ -31,6 +31,6 @@ trace-links h m link =
       program = λ c small b is left. link c small .alone b is left .program;
       reserved = λ c small b is left. link c small .alone b is left .reserved;
       looks = λ c small b is left p inside none.
-        look-is m c p small inside (link c small .alone b is left .reserved) ∙ sym (in-is c p (recordOf m c) small inside (link c small .alone b is left .reserved))
-        ∙ link c small .alone b is left .places p inside (outside (b .program .first) p (recordOf m c .counts .landed) none);
+          look-is m c p small inside (link c small .alone b is left .reserved) ∙ sym (in-is c p (recordOf m c) small inside (link c small .alone b is left .reserved))
+          ∙ link c small .alone b is left .places p inside (outside (b .program .first) p (recordOf m c .counts .landed) none);
     }

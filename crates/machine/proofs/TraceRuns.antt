@@ -43,7 +43,7 @@ pub record Linked (h : History) (m : Mean) : Type 0 where
   pub reserved : (c : ℕ) → c < 16 → (b : Begun) → begun c h ≡ Some b → touched c h ≡ false → recordOf m c .flags .reserved ≡ true
   -- a place where nothing has landed is told as at the start
   pub looks : (c : ℕ) → c < 16 → (b : Begun) → begun c h ≡ Some b → touched c h ≡ false → (p : ℕ) → p < 256
-    → (b .program .first ≤ p → p < b .program .first + recordOf m c .counts .landed → ⊥) → lookAnswer m c p ≡ b .at .look c p
+      → (b .program .first ≤ p → p < b .program .first + recordOf m c .counts .landed → ⊥) → lookAnswer m c p ≡ b .at .look c p
 
 -- WHAT LOOK TELLS
 
@@ -62,26 +62,27 @@ word-told p (Some w) = refl
 
 -- the words still to be sent are those that were told at the start
 ready : (h : History) (m : Mean) (v : View) (c : ℕ) (b : Begun) → c < 16 → Sound m v → Linked h m → begun c h ≡ Some b → touched c h ≡ false
-  → Ready c b (recordOf m c) v (dues (m .flight))
+    → Ready c b (recordOf m c) v (dues (m .flight))
 ready h m v c b small sound linked is left =
     let program = linked .program c small b is left in
     let fine = sound .channels c small in
     record {
       program = program;
       words = λ i late h.
-        let inside : b .program .first + i < 256
-              = within (b .program .first) (b .program .last) i (subst (λ (p : Stored). p .first ≤ p .last) program (fine .ordered)) (subst (λ (p : Stored). p .last < 256) program (fine .within)) h in
-        let told : valueOr (getD (recordOf m c .window) (b .program .first + i) None) 0 ≡ wordTold (b .at .look c (b .program .first + i))
-              = sym (word-told (b .program .first + i) (getD (recordOf m c .window) (b .program .first + i) None))
-              ∙ ap wordTold (sym (look-is m c (b .program .first + i) small inside (linked .reserved c small b is left))
-                ∙ linked .looks c small b is left (b .program .first + i) inside (λ _. outside (b .program .first) i (recordOf m c .counts .landed) (recordOf m c .counts .sent) (fine .landed-sent) late)) in
-        ap (λ (x : ℕ). cond (recordOf m c .program .single) (recordOf m c .program .word) x) told
-        ∙ ap (λ (p : Stored). cond (p .single) (p .word) (wordTold (b .at .look c (b .program .first + i)))) program;
+          let inside : b .program .first + i < 256
+          = within (b .program .first) (b .program .last) i (subst (λ (p : Stored). p .first ≤ p .last) program (fine .ordered)) (subst (λ (p : Stored). p .last < 256) program (fine .within)) h in
+          let told : valueOr (getD (recordOf m c .window) (b .program .first + i) None) 0 ≡ wordTold (b .at .look c (b .program .first + i))
+          = sym (word-told (b .program .first + i) (getD (recordOf m c .window) (b .program .first + i) None))
+          ∙ ap wordTold (sym (look-is m c (b .program .first + i) small inside (linked .reserved c small b is left))
+          ∙ linked .looks c small b is left (b .program .first + i) inside (λ _. outside (b .program .first) i (recordOf m c .counts .landed) (recordOf m c .counts .sent) (fine .landed-sent) late)) in
+          ap (λ (x : ℕ). cond (recordOf m c .program .single) (recordOf m c .program .word) x) told
+          ∙ ap (λ (p : Stored). cond (p .single) (p .word) (wordTold (b .at .look c (b .program .first + i)))) program;
       tied = sound .tied;
     }
   where
     within : (f l i : ℕ) → f ≤ l → l < 256 → i ≤ l - f → f + i < 256
     within f l i ordered small h = omega arith
+
     outside : (f i landed sent : ℕ) → landed ≤ sent → sent ≤ i → f + i < f + landed → ⊥
     outside f i landed sent a b e = omega arith
 
@@ -122,7 +123,7 @@ clash-running c q after h before here running =
 
 -- the program that the latest event begins on d conflicts with that of c: this is a clash
 clash-begun : (c d : ℕ) (b q : Begun) (s : Option Starts) (after : Seen) (h : History) (before : Type 0) → begun c h ≡ Some b → startsOn c s ≡ false → startsOn d s ≡ true
-  → begunBy d s after (begun d h) ≡ Some q → Conflict (b .program) (q .program) → ClashBy c s after h before
+    → begunBy d s after (begun d h) ≡ Some q → Conflict (b .program) (q .program) → ClashBy c s after h before
 clash-begun c d b q None after h before is other here e conflict = absurd (let z : _≡_ {A = ℕ} 0 1 = cc in omega arith)
 clash-begun c d b q (Some s) after h before is other here e conflict =
     let same : _≡_ {A = Option Begun} (Some (record { program = s .program; at = after })) (Some q) = sym (cond-true _ _ _ here) ∙ e in
@@ -132,24 +133,24 @@ clash-begun c d b q (Some s) after h before is other here e conflict =
     program-of f = let g : record { program = s .program; at = after } ≡ q = cc in ap (λ (x : Begun). x .program) g
 
 apart-step : (call : Call) (a : Answer) (m n : Mean) (v w : View) (h : History) (c : ℕ) (b : Begun) → Step call a m v n w → begun c h ≡ Some b
-  → startsOn c (startIn call (accepted a)) ≡ false → (Clashes c (record { call = call; answer = a; after = seen n w } ∷ h) → ⊥)
-  → Apart c b h m → Apart c b (record { call = call; answer = a; after = seen n w } ∷ h) n
+    → startsOn c (startIn call (accepted a)) ≡ false → (Clashes c (record { call = call; answer = a; after = seen n w } ∷ h) → ⊥)
+    → Apart c b h m → Apart c b (record { call = call; answer = a; after = seen n w } ∷ h) n
 apart-step call a m n v w h c b step is elsewhere free apart d small other running q e conflict =
     ⊎-elim
-      (λ (here : startsOn d (startIn call (accepted a)) ≡ true).
-        free (clash-begun c d b q (startIn call (accepted a)) (seen n w) h (Clashes c h) is elsewhere here e conflict))
-      (λ (there : startsOn d (startIn call (accepted a)) ≡ false).
-        apart d small other (ran-step call a m n v w d step there running) q (sym (begun-before d (startIn call (accepted a)) (seen n w) (begun d h) there) ∙ e) conflict)
-      (cases-bool (startsOn d (startIn call (accepted a))))
+    (λ (here : startsOn d (startIn call (accepted a)) ≡ true).
+    free (clash-begun c d b q (startIn call (accepted a)) (seen n w) h (Clashes c h) is elsewhere here e conflict))
+    (λ (there : startsOn d (startIn call (accepted a)) ≡ false).
+    apart d small other (ran-step call a m n v w d step there running) q (sym (begun-before d (startIn call (accepted a)) (seen n w) (begun d h) there) ∙ e) conflict)
+    (cases-bool (startsOn d (startIn call (accepted a))))
 
 -- at a start, the program is compared with all that run
 apart-start : (s : Option Starts) (n : Mean) (w : View) (h : History) (c : ℕ) (q : Starts) (before : Type 0) → startsOn c s ≡ true → s ≡ Some q → (ClashBy c s (seen n w) h before → ⊥)
-  → (d : ℕ) → d < 16 → (d ≡ c → ⊥) → recordOf n d .flags .running ≡ true → (o : Begun) → begunBy d s (seen n w) (begun d h) ≡ Some o → Conflict (q .program) (o .program) → ⊥
+    → (d : ℕ) → d < 16 → (d ≡ c → ⊥) → recordOf n d .flags .running ≡ true → (o : Begun) → begunBy d s (seen n w) (begun d h) ≡ Some o → Conflict (q .program) (o .program) → ⊥
 apart-start s n w h c q before here is free d small other running o e conflict =
     let mine : eqb (q .channel) c ≡ true = subst (λ (x : Option Starts). startsOn c x ≡ true) is here in
     let there : startsOn d s ≡ false = subst (λ (x : Option Starts). startsOn d x ≡ false) (sym is) (ne-eqb (q .channel) d (λ same. other (sym same ∙ eqb-true (q .channel) c mine))) in
     free (subst (λ (x : Option Starts). ClashBy c x (seen n w) h before) (sym is)
-      (clash-running c q (seen n w) h before mine (d, o, (other, runs-told n w d running, sym (begun-before d s (seen n w) (begun d h) there) ∙ e, conflict))))
+    (clash-running c q (seen n w) h before mine (d, o, (other, runs-told n w d running, sym (begun-before d s (seen n w) (begun d h) there) ∙ e, conflict))))
 
 -- A START
 
@@ -179,13 +180,13 @@ none-due false sent landed a e = refl
 
 -- with nothing sent and nothing landed, all is as it is seen
 fresh : (n : Mean) (w : View) (c : ℕ) (p : Stored) → c < 16 → Sound n w → recordOf n c .counts .sent ≡ 0 → recordOf n c .counts .landed ≡ 0
-  → Alone c (record { program = p; at = seen n w }) (recordOf n c) w (dues (n .flight))
+    → Alone c (record { program = p; at = seen n w }) (recordOf n c) w (dues (n .flight))
 fresh n w c p small sound sent landed =
     record {
       held = λ q from to. absurd (nowhere q (p .first) (recordOf n c .counts .landed) landed from to);
       cells = λ i h. sym (cond-false _ _ _ (le-ltb i (recordOf n c .counts .sent) (subst (λ (k : ℕ). k ≤ i) (sym sent) (omega arith))));
       replies = replies-none c (startWord (record { program = p; at = seen n w })) (w .transit) (dues (n .flight))
-        (sound .channels c small .due ∙ none-due _ (recordOf n c .counts .sent) (recordOf n c .counts .landed) _ sent);
+          (sound .channels c small .due ∙ none-due _ (recordOf n c .counts .sent) (recordOf n c .counts .landed) _ sent);
     }
   where
     nowhere : (q f l : ℕ) → l ≡ 0 → f ≤ q → q < f + l → ⊥
@@ -207,25 +208,25 @@ abbrev pub Traces : History → Mean → View → Type 0
 Traces h m v = (c : ℕ) → c < 16 → (b : Begun) → begun c h ≡ Some b → (Clashes c h → ⊥) → touched c h ≡ false → Trace c b h m v
 
 traces-start : (call : Call) (a : Answer) (n : Mean) (w : View) (h : History) (c : ℕ) (b : Begun) → c < 16 → Sound n w → Linked (record { call = call; answer = a; after = seen n w } ∷ h) n
-  → begun c (record { call = call; answer = a; after = seen n w } ∷ h) ≡ Some b → (Clashes c (record { call = call; answer = a; after = seen n w } ∷ h) → ⊥)
-  → startsOn c (startIn call (accepted a)) ≡ true → Trace c b (record { call = call; answer = a; after = seen n w } ∷ h) n w
+    → begun c (record { call = call; answer = a; after = seen n w } ∷ h) ≡ Some b → (Clashes c (record { call = call; answer = a; after = seen n w } ∷ h) → ⊥)
+    → startsOn c (startIn call (accepted a)) ≡ true → Trace c b (record { call = call; answer = a; after = seen n w } ∷ h) n w
 traces-start call a n w h c b small sound linked is free here =
     let now = begun-now c (startIn call (accepted a)) (seen n w) (begun c h) here in
     let resets = starts-reset c call a here in
     let same : record { program = now .0 .program; at = seen n w } ≡ b = some-same (record { program = now .0 .program; at = seen n w }) b (sym (now .2) ∙ is) in
     subst (λ (x : Begun). Trace c x (record { call = call; answer = a; after = seen n w } ∷ h) n w) same
-      (record {
-        apart = apart-start (startIn call (accepted a)) n w h c (now .0) (Clashes c h) here (now .1) free;
-        alone = fresh n w c (now .0 .program) small sound (linked .sent c small ∙ cond-true _ _ _ resets) (linked .landed c small ∙ cond-true _ _ _ resets);
-      })
+    (record {
+      apart = apart-start (startIn call (accepted a)) n w h c (now .0) (Clashes c h) here (now .1) free;
+      alone = fresh n w c (now .0 .program) small sound (linked .sent c small ∙ cond-true _ _ _ resets) (linked .landed c small ∙ cond-true _ _ _ resets);
+    })
   where
     some-same : (x y : Begun) → _≡_ {A = Option Begun} (Some x) (Some y) → x ≡ y
     some-same x y e = cc
 
 traces-more : (call : Call) (a : Answer) (m n : Mean) (v w : View) (h : History) (c : ℕ) (b : Begun) → c < 16 → Step call a m v n w → Sound m v → Linked h m
-  → begun c (record { call = call; answer = a; after = seen n w } ∷ h) ≡ Some b → (Clashes c (record { call = call; answer = a; after = seen n w } ∷ h) → ⊥)
-  → touched c (record { call = call; answer = a; after = seen n w } ∷ h) ≡ false → startsOn c (startIn call (accepted a)) ≡ false → Traces h m v
-  → Trace c b (record { call = call; answer = a; after = seen n w } ∷ h) n w
+    → begun c (record { call = call; answer = a; after = seen n w } ∷ h) ≡ Some b → (Clashes c (record { call = call; answer = a; after = seen n w } ∷ h) → ⊥)
+    → touched c (record { call = call; answer = a; after = seen n w } ∷ h) ≡ false → startsOn c (startIn call (accepted a)) ≡ false → Traces h m v
+    → Trace c b (record { call = call; answer = a; after = seen n w } ∷ h) n w
 traces-more call a m n v w h c b small step sound linked is free left elsewhere before =
     let was : begun c h ≡ Some b = sym (begun-before c (startIn call (accepted a)) (seen n w) (begun c h) elsewhere) ∙ is in
     let alike = left-alone (startsOn c (startIn call (accepted a))) (touchesBy c call a) (touched c h) elsewhere left in
@@ -233,16 +234,16 @@ traces-more call a m n v w h c b small step sound linked is free left elsewhere 
     record {
       apart = apart-step call a m n v w h c b step was elsewhere free (trace .apart);
       alone = alone-step call a m n v w c b small step sound (free-now h m c b linked (trace .apart)) (linked .reserved c small b was (alike .1)) elsewhere (alike .0)
-        (ready h m v c b small sound linked was (alike .1)) (trace .alone);
+          (ready h m v c b small sound linked was (alike .1)) (trace .alone);
     }
 
 pub traces-step : (call : Call) (a : Answer) (m n : Mean) (v w : View) (h : History) → Step call a m v n w → Sound m v → Sound n w → Linked h m
-  → Linked (record { call = call; answer = a; after = seen n w } ∷ h) n → Traces h m v → Traces (record { call = call; answer = a; after = seen n w } ∷ h) n w
+    → Linked (record { call = call; answer = a; after = seen n w } ∷ h) n → Traces h m v → Traces (record { call = call; answer = a; after = seen n w } ∷ h) n w
 traces-step call a m n v w h step sound sound-after linked linked-after before c small b is free left =
     ⊎-elim
-      (traces-start call a n w h c b small sound-after linked-after is free)
-      (λ elsewhere. traces-more call a m n v w h c b small step sound linked is free left elsewhere before)
-      (cases-bool (startsOn c (startIn call (accepted a))))
+    (traces-start call a n w h c b small sound-after linked-after is free)
+    (λ elsewhere. traces-more call a m n v w h c b small step sound linked is free left elsewhere before)
+    (cases-bool (startsOn c (startIn call (accepted a))))
 
 pub now-seen : {v : View} {h : History} {n : Mean} {w : View} → Run newMean v h n w → nowSeen (seen newMean v) h ≡ seen n w
 now-seen begin = refl
@@ -261,11 +262,11 @@ traced-now h m v s now sound linked traces =
     place : (c : ℕ) → c < 16 → (b : Begun) → begun c h ≡ Some b → touched c h ≡ false → Trace c b h m v → (p : ℕ) → p < 256 → lookAnswer m c p ≡ placeAlone c b (recordOf m c .counts .landed) p
     place c small b is left trace p inside =
         cond-both (leb (b .program .first) p && ltb p (b .program .first + recordOf m c .counts .landed)) _ _ (λ (x : Result ℕ ChannelFault). lookAnswer m c p ≡ x)
-          (λ both. let parts = and-parts (leb (b .program .first) p) (ltb p (b .program .first + recordOf m c .counts .landed)) both in
-            look-is m c p small inside (linked .reserved c small b is left)
-            ∙ ap (law.tells p) (trace .alone .held p (leb-true _ _ (parts .0)) (ltb-true _ _ (parts .1))))
-          (λ not-both. linked .looks c small b is left p inside
-            (λ from to. both-ways _ not-both (and-from (leb (b .program .first) p) (ltb p (b .program .first + recordOf m c .counts .landed)) (le-leb _ _ from) (lt-ltb _ _ to))))
+        (λ both. let parts = and-parts (leb (b .program .first) p) (ltb p (b .program .first + recordOf m c .counts .landed)) both in
+        look-is m c p small inside (linked .reserved c small b is left)
+        ∙ ap (law.tells p) (trace .alone .held p (leb-true _ _ (parts .0)) (ltb-true _ _ (parts .1))))
+        (λ not-both. linked .looks c small b is left p inside
+        (λ from to. both-ways _ not-both (and-from (leb (b .program .first) p) (ltb p (b .program .first + recordOf m c .counts .landed)) (le-leb _ _ from) (lt-ltb _ _ to))))
 
 -- how soundness and the links are come by is shown elsewhere
 pub record Grounds : Type 0 where

@@ -88,7 +88,7 @@ cellFor r p = cellAt (r .program) (p - r .program .first)
 
 -- a cell that none of them names is left as it is
 pub others-kept : (r : Record) (n p : ℕ) (v w : View) (a : ℕ) → a < 2 ^ 32 → ((q : ℕ) → p ≤ q → q < p + n → a ≡ cellFor r q → ⊥)
-  → SentAll (requestsFrom r n p) v w → w .cell a ≡ v .cell a
+    → SentAll (requestsFrom r n p) v w → w .cell a ≡ v .cell a
 others-kept r zero p v w a small other sent = ap (λ (x : View). x .cell a) sent
 others-kept r (suc n) p v w a small other (x, (sends, rest)) =
     others-kept r n (p + 1) x w a small (λ q from to. other q (omega arith) (omega arith)) rest
@@ -100,9 +100,9 @@ loads-keep r zero p v w a small load sent = ap (λ (x : View). x .cell a) sent
 loads-keep r (suc n) p v w a small load (x, (sends, rest)) =
     loads-keep r n (p + 1) x w a small load rest
     ∙ ⊎-elim
-        (λ same. one-same (requestAt r p) v x a small same sends ∙ load-leaves (r .program .mode) (wordSent r p) (v .cell a) load)
-        (λ other. one-other (requestAt r p) v x a small other sends)
-        (cases-eq a (cellFor r p))
+    (λ same. one-same (requestAt r p) v x a small same sends ∙ load-leaves (r .program .mode) (wordSent r p) (v .cell a) load)
+    (λ other. one-other (requestAt r p) v x a small other sends)
+    (cases-eq a (cellFor r p))
 
 -- the places from p on, n of them, go with different cells
 abbrev pub Apart : Record → ℕ → ℕ → Type 0
@@ -116,20 +116,20 @@ first-apart r n p q apart from to e = let same : q ≡ p = apart q p (omega arit
 
 -- each cell that they name holds what its own request leaves
 pub own-changed : (r : Record) (n p : ℕ) (v w : View) (q : ℕ) → Apart r n p → p ≤ q → q < p + n → SentAll (requestsFrom r n p) v w
-  → w .cell (cellFor r q) ≡ mapped (wordAfter (sending (r .program .mode) (wordSent r q))) (v .cell (cellFor r q))
+    → w .cell (cellFor r q) ≡ mapped (wordAfter (sending (r .program .mode) (wordSent r q))) (v .cell (cellFor r q))
 own-changed r zero p v w q apart from to sent = absurd (omega arith)
 own-changed r (suc n) p v w q apart from to (x, (sends, rest)) =
     let later = own-changed r n (p + 1) x w q (apart-later r n p apart) in
     ⊎-elim
-      (λ (same : p ≡ q).
-        others-kept r n (p + 1) x w (cellFor r q) (cell-small (r .program) (q - r .program .first)) (λ i a b e. first-apart r n p i apart a b (sym e ∙ ap (cellFor r) (sym same))) rest
-        ∙ one-same (requestAt r p) v x (cellFor r q) (cell-small (r .program) (q - r .program .first)) (ap (cellFor r) (sym same)) sends
-        ∙ ap (λ (i : ℕ). mapped (wordAfter (sending (r .program .mode) (wordSent r i))) (v .cell (cellFor r q))) same)
-      (λ (other : p ≡ q → ⊥).
-        later (omega arith) (omega arith) rest
-        ∙ ap (mapped (wordAfter (sending (r .program .mode) (wordSent r q))))
-            (one-other (requestAt r p) v x (cellFor r q) (cell-small (r .program) (q - r .program .first)) (first-apart r n p q apart (omega arith) (omega arith)) sends))
-      (cases-eq p q)
+    (λ (same : p ≡ q).
+    others-kept r n (p + 1) x w (cellFor r q) (cell-small (r .program) (q - r .program .first)) (λ i a b e. first-apart r n p i apart a b (sym e ∙ ap (cellFor r) (sym same))) rest
+    ∙ one-same (requestAt r p) v x (cellFor r q) (cell-small (r .program) (q - r .program .first)) (ap (cellFor r) (sym same)) sends
+    ∙ ap (λ (i : ℕ). mapped (wordAfter (sending (r .program .mode) (wordSent r i))) (v .cell (cellFor r q))) same)
+    (λ (other : p ≡ q → ⊥).
+    later (omega arith) (omega arith) rest
+    ∙ ap (mapped (wordAfter (sending (r .program .mode) (wordSent r q))))
+    (one-other (requestAt r p) v x (cellFor r q) (cell-small (r .program) (q - r .program .first)) (first-apart r n p q apart (omega arith) (omega arith)) sends))
+    (cases-eq p q)
 
 -- REPLIES
 
@@ -150,9 +150,9 @@ replies-none c f [] ds none = tt
 replies-none c f (x ∷ xs) [] none = tt
 replies-none c f (x ∷ xs) (d ∷ ds) none =
     cond-both (eqb (d .channel) c) _ _ (λ (l : List ℕ). l ≡ [] → (placesDue c ds ≡ [] → Replies c f xs ds) → Replies c f (x ∷ xs) (d ∷ ds))
-      (λ _ e _. absurd (let z : _≡_ {A = ℕ} 0 1 = cc in omega arith))
-      (λ other e later. ((λ same. absurd (eqb-false (d .channel) c other same)), later e))
-      none (replies-none c f xs ds)
+    (λ _ e _. absurd (let z : _≡_ {A = ℕ} 0 1 = cc in omega arith))
+    (λ other e later. ((λ same. absurd (eqb-false (d .channel) c other same)), later e))
+    none (replies-none c f xs ds)
 
 -- pieces that have no replies leave the transit as it is
 pub silent-kept : (r : Record) (n p : ℕ) (v w : View) → hasReplies (r .program .mode) ≡ false → SentAll (requestsFrom r n p) v w → w .transit ≡ v .transit
@@ -167,15 +167,15 @@ pub record Brought (c : ℕ) (f : ℕ → Option ℕ) (d n p : ℕ) (v w : View)
   pub good : Replies c f words (dueFrom n d p)
 
 pub brought : (c : ℕ) (f : ℕ → Option ℕ) (d : ℕ) (r : Record) (n p : ℕ) (v w : View) → hasReplies (r .program .mode) ≡ true → Apart r n p
-  → (d ≡ c → (q : ℕ) → p ≤ q → q < p + n → v .cell (cellFor r q) ≡ f q) → SentAll (requestsFrom r n p) v w → Brought c f d n p v w
+    → (d ≡ c → (q : ℕ) → p ≤ q → q < p + n → v .cell (cellFor r q) ≡ f q) → SentAll (requestsFrom r n p) v w → Brought c f d n p v w
 brought c f d r zero p v w replies apart good sent = record { words = []; added = ap (λ (x : View). x .transit) sent ∙ sym (append-nil (v .transit)); good = tt }
 brought c f d r (suc n) p v w replies apart good (x, (sends, rest)) =
     let later = brought c f d r n (p + 1) x w replies (apart-later r n p apart)
-          (λ same q from to. one-other (requestAt r p) v x (cellFor r q) (cell-small (r .program) (q - r .program .first)) (first-apart r n p q apart from to) sends ∙ good same q (omega arith) (omega arith)) rest in
+    (λ same q from to. one-other (requestAt r p) v x (cellFor r q) (cell-small (r .program) (q - r .program .first)) (first-apart r n p q apart from to) sends ∙ good same q (omega arith) (omega arith)) rest in
     record {
       words = v .cell (cellFor r p) ∷ later .words;
       added = later .added
-        ∙ ap (λ (l : List (Option ℕ)). l ++ later .words) (one-reply (requestAt r p) v x (wants (r .program .mode) (wordSent r p) ∙ replies) sends)
-        ∙ append-assoc (v .transit) (v .cell (cellFor r p) ∷ []) (later .words);
+          ∙ ap (λ (l : List (Option ℕ)). l ++ later .words) (one-reply (requestAt r p) v x (wants (r .program .mode) (wordSent r p) ∙ replies) sends)
+          ∙ append-assoc (v .transit) (v .cell (cellFor r p) ∷ []) (later .words);
       good = ((λ same. good same p (omega arith) (omega arith)), later .good);
     }

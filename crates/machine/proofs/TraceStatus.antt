@@ -52,14 +52,14 @@ lowest r e s v f n q l t h = omega arith
 abbrev lowBits : Mean → ℕ → ℕ
 lowBits m c =
     boolByte (recordOf m c .flags .running) + boolByte (recordOf m c .flags .error) * 2 + boolByte (recordOf m c .flags .stop) * 4
-  + boolByte (recordOf m c .flags .reserved) * 8 + valueOr (lowestFree (m .records)) 0 * 16 + boolByte (not (isSome (lowestFree (m .records)))) * 256
-  + boolByte (m .quiet) * 512
+    + boolByte (recordOf m c .flags .reserved) * 8 + valueOr (lowestFree (m .records)) 0 * 16 + boolByte (not (isSome (lowestFree (m .records)))) * 256
+    + boolByte (m .quiet) * 512
 
 lowBits-small : (m : Mean) (c : ℕ) → length (m .records) ≡ 16 → lowBits m c < 2 ^ 14
 lowBits-small m c wide =
     low-small (boolByte (recordOf m c .flags .running)) (boolByte (recordOf m c .flags .error)) (boolByte (recordOf m c .flags .stop))
-      (boolByte (recordOf m c .flags .reserved)) (valueOr (lowestFree (m .records)) 0) (boolByte (not (isSome (lowestFree (m .records)))))
-      (boolByte (m .quiet)) (bit-small _) (bit-small _) (bit-small _) (bit-small _) (few (valueOr (lowestFree (m .records)) 0) (length (m .records)) (free-small (m .records)) wide) (bit-small _) (bit-small _)
+    (boolByte (recordOf m c .flags .reserved)) (valueOr (lowestFree (m .records)) 0) (boolByte (not (isSome (lowestFree (m .records)))))
+    (boolByte (m .quiet)) (bit-small _) (bit-small _) (bit-small _) (bit-small _) (few (valueOr (lowestFree (m .records)) 0) (length (m .records)) (free-small (m .records)) wide) (bit-small _) (bit-small _)
   where
     few : (f n : ℕ) → f ≤ n → n ≡ 16 → f ≤ 16
     few f n h e = omega arith
@@ -92,6 +92,6 @@ bit-is false e = e
 pub runs-told : (m : Mean) (v : View) (c : ℕ) → recordOf m c .flags .running ≡ true → runs (seen m v) c ≡ true
 runs-told m v c running =
     ap (λ (n : ℕ). eqb n 1) (lowest (boolByte (recordOf m c .flags .running)) (boolByte (recordOf m c .flags .error)) (boolByte (recordOf m c .flags .stop))
-      (boolByte (recordOf m c .flags .reserved)) (valueOr (lowestFree (m .records)) 0) (boolByte (not (isSome (lowestFree (m .records)))))
-      (boolByte (m .quiet)) (recordOf m c .counts .landed) (recordOf m c .counts .sent) (bit-small _))
+    (boolByte (recordOf m c .flags .reserved)) (valueOr (lowestFree (m .records)) 0) (boolByte (not (isSome (lowestFree (m .records)))))
+    (boolByte (m .quiet)) (recordOf m c .counts .landed) (recordOf m c .counts .sent) (bit-small _))
     ∙ bit-is _ running

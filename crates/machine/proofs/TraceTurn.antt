@@ -63,7 +63,7 @@ record Landed (c : ℕ) (b : Begun) (m n : Mean) (x : View) : Type 0 where
   both : Both c b n x
 
 landed-same : (m : Mean) (p : Piece) (w : Option ℕ) (k d : ℕ) → k ≡ d → d < length (m .records)
-  → getD (set (m .records) k (landedRecord p w (recordOf m k))) d absent ≡ landedRecord p w (recordOf m d)
+    → getD (set (m .records) k (landedRecord p w (recordOf m k))) d absent ≡ landedRecord p w (recordOf m d)
 landed-same m p w k d same inside =
     ap (λ (j : ℕ). getD (set (m .records) j (landedRecord p w (recordOf m j))) d absent) same ∙ getD-set-same (m .records) d (landedRecord p w (recordOf m d)) absent inside
 
@@ -77,17 +77,17 @@ land-left m p rest w =
       singles = refl;
       blocks = refl;
       program = λ d inside. ⊎-elim
-        (λ same. ap (λ (r : Record). r .program) (landed-same m p w (p .channel .0) d same inside))
-        (λ other. ap (λ (r : Record). r .program) (landed-other m p w (p .channel .0) d other))
-        (cases-eq (p .channel .0) d);
+          (λ same. ap (λ (r : Record). r .program) (landed-same m p w (p .channel .0) d same inside))
+          (λ other. ap (λ (r : Record). r .program) (landed-other m p w (p .channel .0) d other))
+          (cases-eq (p .channel .0) d);
       sent = λ d inside. ⊎-elim
-        (λ same. ap (λ (r : Record). r .counts .sent) (landed-same m p w (p .channel .0) d same inside))
-        (λ other. ap (λ (r : Record). r .counts .sent) (landed-other m p w (p .channel .0) d other))
-        (cases-eq (p .channel .0) d);
+          (λ same. ap (λ (r : Record). r .counts .sent) (landed-same m p w (p .channel .0) d same inside))
+          (λ other. ap (λ (r : Record). r .counts .sent) (landed-other m p w (p .channel .0) d other))
+          (cases-eq (p .channel .0) d);
     }
 
 land-reply : (c : ℕ) (b : Begun) (m : Mean) (v x : View) (p : Piece) (rest : List Piece) (w : Option ℕ) → c < 16 → Sound m v → m .flight ≡ p ∷ rest → Lands w v x → Both c b m v
-  → Landed c b m (landed m (p ∷ rest) (taken.Reply w)) x
+    → Landed c b m (landed m (p ∷ rest) (taken.Reply w)) x
 land-reply c b m v x p rest w small sound fl lands both =
     let fit : PiecesFit (p ∷ rest) = subst PiecesFit fl (sound .pieces-fit) in
     let ds = dues (flightAfter p rest) in
@@ -99,18 +99,18 @@ land-reply c b m v x p rest w small sound fl lands both =
     record {
       left = land-left m p rest w;
       both = ⊎-elim
-        (λ (same : p .channel .0 ≡ c).
+          (λ (same : p .channel .0 ≡ c).
           let due = head-due m c (record { channel = p .channel .0; place = p .next .0 }) ds fine split same in
           let there = there-is (p .next .0) (recordOf m c .program .first) (recordOf m c .program .last) (recordOf m c .counts .landed) (recordOf m c .counts .sent) (length (recordOf m c .window))
-            (due .0) (due .1) (fine .sent-all) (fine .ordered) (fine .within) (fine .window) in
+          (due .0) (due .1) (fine .sent-all) (fine .ordered) (fine .within) (fine .window) in
           let after = land-own c b (recordOf m c) p w v x (record { channel = p .channel .0; place = p .next .0 }) ds same refl (due .0) (due .1) there lands ready alone in
           let is = landed-same m p w (p .channel .0) c same inside in
           record { ready = subst (λ (r : Record). Ready c b r x ds) (sym is) (after .0); alone = subst (λ (r : Record). Alone c b r x ds) (sym is) (after .1) })
-        (λ (other : p .channel .0 ≡ c → ⊥).
+          (λ (other : p .channel .0 ≡ c → ⊥).
           let after = land-other c b (recordOf m c) w v x (record { channel = p .channel .0; place = p .next .0 }) ds lands ready alone in
           let is = landed-other m p w (p .channel .0) c other in
           record { ready = subst (λ (r : Record). Ready c b r x ds) (sym is) (after .0); alone = subst (λ (r : Record). Alone c b r x ds) (sym is) (after .1) })
-        (cases-eq (p .channel .0) c);
+          (cases-eq (p .channel .0) c);
     }
   where
     there-is : (q f l landed sent long : ℕ) → q ≡ f + landed → landed < sent → sent ≤ l + 1 - f → f ≤ l → l < 256 → long ≡ 256 → q < long
@@ -146,7 +146,7 @@ more-right a b h = omega arith
 
 -- the channel that is chosen stands in a line
 pub chosen-stands : (d : Channel) (ss bs : List Channel) (after : Bool) → chosen ss bs after ≡ Some d → ChannelsFit ss → ChannelsFit bs
-  → (0 < times (d .0) ss + times (d .0) bs) × (d .0 < 16)
+    → (0 < times (d .0) ss + times (d .0) bs) × (d .0 < 16)
 chosen-stands d [] [] after e sf bf = absurd (let z : _≡_ {A = ℕ} 0 1 = cc in omega arith)
 chosen-stands d [] (b ∷ bs) after e sf bf = let f = front d b bs e bf in (more-right 0 (times (d .0) (b ∷ bs)) (f .0), f .1)
 chosen-stands d (s ∷ ss) [] after e sf bf = let f = front d s ss e sf in (more-left (times (d .0) (s ∷ ss)) 0 (f .0), f .1)
@@ -161,19 +161,19 @@ stands-run {m} {d} sound some = go (recordOf m d .flags .running) (times d (m .s
     go false a k h e = absurd (omega arith)
 
 serve-step : (c k : ℕ) (b : Begun) (m : Mean) (v x : View) (ds : List Due) → c < length (m .records) → Fits (recordOf m k)
-  → ((k ≡ c → ⊥) → Conflict (b .program) (recordOf m k .program) → ⊥) → SentAll (requests (recordOf m k)) v x
-  → Ready c b (recordOf m c) v ds → Alone c b (recordOf m c) v ds
-  → Alone c b (getD (set (m .records) k (servedRecord (recordOf m k))) c absent) x (servedDues (recordOf m k) k ds)
+    → ((k ≡ c → ⊥) → Conflict (b .program) (recordOf m k .program) → ⊥) → SentAll (requests (recordOf m k)) v x
+    → Ready c b (recordOf m c) v ds → Alone c b (recordOf m c) v ds
+    → Alone c b (getD (set (m .records) k (servedRecord (recordOf m k))) c absent) x (servedDues (recordOf m k) k ds)
 serve-step c k b m v x ds inside fits free sent ready alone =
     ⊎-elim
-      (λ (same : k ≡ c).
-        subst (λ (j : ℕ). Alone c b (getD (set (m .records) j (servedRecord (recordOf m j))) c absent) x (servedDues (recordOf m j) j ds)) (sym same)
-          (subst (λ (r : Record). Alone c b r x (servedDues (recordOf m c) c ds)) (sym (getD-set-same (m .records) c (servedRecord (recordOf m c)) absent inside))
-            (serve-own c b (recordOf m c) v x ds (subst (λ (j : ℕ). Fits (recordOf m j)) same fits) (subst (λ (j : ℕ). SentAll (requests (recordOf m j)) v x) same sent) ready alone)))
-      (λ (other : k ≡ c → ⊥).
-        subst (λ (r : Record). Alone c b r x (servedDues (recordOf m k) k ds)) (sym (getD-set-other (m .records) k c (servedRecord (recordOf m k)) absent (λ e. other (sym e))))
-          (serve-other c b (recordOf m c) k (recordOf m k) v x ds other fits (free other) sent (ready .tied) alone))
-      (cases-eq k c)
+    (λ (same : k ≡ c).
+    subst (λ (j : ℕ). Alone c b (getD (set (m .records) j (servedRecord (recordOf m j))) c absent) x (servedDues (recordOf m j) j ds)) (sym same)
+    (subst (λ (r : Record). Alone c b r x (servedDues (recordOf m c) c ds)) (sym (getD-set-same (m .records) c (servedRecord (recordOf m c)) absent inside))
+    (serve-own c b (recordOf m c) v x ds (subst (λ (j : ℕ). Fits (recordOf m j)) same fits) (subst (λ (j : ℕ). SentAll (requests (recordOf m j)) v x) same sent) ready alone)))
+    (λ (other : k ≡ c → ⊥).
+    subst (λ (r : Record). Alone c b r x (servedDues (recordOf m k) k ds)) (sym (getD-set-other (m .records) k c (servedRecord (recordOf m k)) absent (λ e. other (sym e))))
+    (serve-other c b (recordOf m c) k (recordOf m k) v x ds other fits (free other) sent (ready .tied) alone))
+    (cases-eq k c)
 
 -- what a service rests on
 record Serves (c : ℕ) (b : Begun) (m : Mean) (d : Channel) : Type 0 where
@@ -181,12 +181,12 @@ record Serves (c : ℕ) (b : Begun) (m : Mean) (d : Channel) : Type 0 where
   free : (d .0 ≡ c → ⊥) → Conflict (b .program) (recordOf m (d .0) .program) → ⊥
 
 serve-all : (c : ℕ) (b : Begun) (m : Mean) (v x : View) (o : Option Channel) → c < length (m .records) → ((d : Channel) → o ≡ Some d → Serves c b m d)
-  → SentAll (requested m o) v x → Both c b m v → Alone c b (recordOf (served m o) c) x (dues (served m o .flight))
+    → SentAll (requested m o) v x → Both c b m v → Alone c b (recordOf (served m o) c) x (dues (served m o .flight))
 serve-all c b m v x None inside serves sent both = subst (λ (y : View). Alone c b (recordOf m c) y (dues (m .flight))) (sym sent) (both .alone)
 serve-all c b m v x (Some d) inside serves sent both =
     let s = serves d refl in
     subst (λ (l : List Due). Alone c b (recordOf (served m (Some d)) c) x l) (sym (served-dues (recordOf m (d .0)) d (m .flight)))
-      (serve-step c (d .0) b m v x (dues (m .flight)) inside (s .fits) (s .free) sent (both .ready) (both .alone))
+    (serve-step c (d .0) b m v x (dues (m .flight)) inside (s .fits) (s .free) sent (both .ready) (both .alone))
 
 -- THE TURN
 
@@ -212,9 +212,9 @@ Free c b m = (d : ℕ) → d < 16 → (d ≡ c → ⊥) → recordOf m d .flags 
 serves-after : (c : ℕ) (b : Begun) (m n : Mean) (v : View) (d : Channel) → Sound m v → Free c b m → Left m n → serviced n ≡ Some d → Serves c b n d
 serves-after c b m n v d sound free left e =
     let pick = chosen-stands d (n .singles) (n .blocks) (n .afterSingle) (serviced-chosen n d e)
-          (subst ChannelsFit (sym (left .singles)) (sound .singles-fit)) (subst ChannelsFit (sym (left .blocks)) (sound .blocks-fit)) in
+    (subst ChannelsFit (sym (left .singles)) (sound .singles-fit)) (subst ChannelsFit (sym (left .blocks)) (sound .blocks-fit)) in
     let stands : 0 < times (d .0) (m .singles) + times (d .0) (m .blocks)
-          = subst (λ (l : List Channel). 0 < times (d .0) (m .singles) + times (d .0) l) (left .blocks) (subst (λ (l : List Channel). 0 < times (d .0) l + times (d .0) (n .blocks)) (left .singles) (pick .0)) in
+    = subst (λ (l : List Channel). 0 < times (d .0) (m .singles) + times (d .0) l) (left .blocks) (subst (λ (l : List Channel). 0 < times (d .0) l + times (d .0) (n .blocks)) (left .singles) (pick .0)) in
     let fine = sound .channels (d .0) (pick .1) in
     let inside : d .0 < length (m .records) = subst (λ (k : ℕ). d .0 < k) (sym (sound .wide)) (pick .1) in
     let program = left .program (d .0) inside in
@@ -224,10 +224,10 @@ serves-after c b m n v d sound free left e =
     }
 
 pub alone-turn : {m n : Mean} {v w : View} {t : Turned} (c : ℕ) (b : Begun) → c < 16 → Turns t m n v w → Sound m v → Free c b m
-  → Ready c b (recordOf m c) v (dues (m .flight)) → Alone c b (recordOf m c) v (dues (m .flight)) → Alone c b (recordOf n c) w (dues (n .flight))
+    → Ready c b (recordOf m c) v (dues (m .flight)) → Alone c b (recordOf m c) v (dues (m .flight)) → Alone c b (recordOf n c) w (dues (n .flight))
 alone-turn {m} {n} {v} {w} {t} c b small turns sound free ready alone =
     let mid = landed m (m .flight) (turns .answered) in
     let after = land c b m v (turns .between) (m .flight) (turns .answered) small sound refl (turns .takes) (record { ready = ready; alone = alone }) in
     let inside : c < length (mid .records) = subst (λ (k : ℕ). c < k) (sym (after .left .wide ∙ sound .wide)) small in
     subst (λ (o : Mean). Alone c b (recordOf o c) w (dues (o .flight))) (sym (turns .after-is))
-      (serve-all c b mid (turns .between) w (serviced mid) inside (λ d. serves-after c b m mid v d sound free (after .left)) (turns .sends) (after .both))
+    (serve-all c b mid (turns .between) w (serviced mid) inside (λ d. serves-after c b m mid v d sound free (after .left)) (turns .sends) (after .both))

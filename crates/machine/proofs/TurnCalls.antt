@@ -70,7 +70,7 @@ pub record Calm (m n : Mean) (c : ℕ) : Type 0 where
   pub undisturbed : Undisturbed (recordOf m c) (recordOf n c)
 
 pub calm-lines : (m n : Mean) (c : ℕ) → n .flight ≡ m .flight → n .afterSingle ≡ m .afterSingle → n .singles ≡ m .singles → n .blocks ≡ m .blocks
-  → Undisturbed (recordOf m c) (recordOf n c) → Calm m n c
+    → Undisturbed (recordOf m c) (recordOf n c) → Calm m n c
 calm-lines m n c flight after singles blocks undisturbed =
     record {
       flight = flight;
@@ -134,11 +134,12 @@ lowest-free [] d e = absurd (let z : _≡_ {A = ℕ} 0 1 = cc in omega arith)
 lowest-free (r ∷ rs) d e =
     let ih = lowest-free rs in
     cond-both (r .flags .reserved) (mapped suc (lowestFree rs)) (Some 0) (λ o. o ≡ Some d → getD (r ∷ rs) d absent .flags .reserved ≡ false)
-      (λ _. later (lowestFree rs) refl ih)
-      (λ free f. let z : 0 ≡ d = cc in subst (at r rs) z free) e
+    (λ _. later (lowestFree rs) refl ih)
+    (λ free f. let z : 0 ≡ d = cc in subst (at r rs) z free) e
   where
     at : Record → List Record → ℕ → Type 0
     at x xs i = getD (x ∷ xs) i absent .flags .reserved ≡ false
+
     later : (o : Option ℕ) → lowestFree rs ≡ o → ((i : ℕ) → lowestFree rs ≡ Some i → getD rs i absent .flags .reserved ≡ false) → mapped suc o ≡ Some d → getD (r ∷ rs) d absent .flags .reserved ≡ false
     later None is ih f = absurd (let z : _≡_ {A = ℕ} 0 1 = cc in omega arith)
     later (Some i) is ih f = let z : suc i ≡ d = cc in subst (at r rs) z (ih i is)
@@ -146,12 +147,12 @@ lowest-free (r ∷ rs) d e =
 free-rests : (m : Mean) (v : View) → Sound m v → (d : ℕ) → lowestFree (m .records) ≡ Some d → recordOf m d .flags .running ≡ false
 free-rests m v sound d free =
     ⊎-elim
-      (λ within. ⊎-elim
-        (λ runs. absurd (both-ways _ (lowest-free (m .records) d free) (sound .channels d within .held runs)))
-        (λ e. e)
-        (cases-bool (recordOf m d .flags .running)))
-      (λ past. ap (λ (r : Record). r .flags .running) (getD-past (m .records) d absent (omega (arith, sound .wide))))
-      (cases-lt d 16)
+    (λ within. ⊎-elim
+    (λ runs. absurd (both-ways _ (lowest-free (m .records) d free) (sound .channels d within .held runs)))
+    (λ e. e)
+    (cases-bool (recordOf m d .flags .running)))
+    (λ past. ap (λ (r : Record). r .flags .running) (getD-past (m .records) d absent (omega (arith, sound .wide))))
+    (cases-lt d 16)
 
 calm-reserve : (m : Mean) (v : View) → Sound m v → (c : ℕ) → Calm m (reserveState m) c
 calm-reserve m v sound c = go (lowestFree (m .records)) refl
@@ -166,31 +167,31 @@ calm-unless m n c o = unless-cases (λ x. Calm m x c) o m n (calm-same m c)
 calm-release : (m : Mean) (d c : ℕ) → Calm m (unlessRefused (releaseRefused m d) m (releaseState m d)) c
 calm-release m d c =
     calm-unless m _ c _ (λ passed.
-      let rests = past-resting (recordOf m d) None (past-reserved (recordOf m d) _ (past-channel d _ passed .1)) .0 in
-      calm-set m d _ (undisturbed-rest _ _ rests refl) c)
+    let rests = past-resting (recordOf m d) None (past-reserved (recordOf m d) _ (past-channel d _ passed .1)) .0 in
+    calm-set m d _ (undisturbed-rest _ _ rests refl) c)
 
 calm-put : (m : Mean) (d p x c : ℕ) → Calm m (unlessRefused (putRefused m d p) m (putState m d p x)) c
 calm-put m d p x c =
     calm-unless m _ c _ (λ passed.
-      let rests = past-resting (recordOf m d) None (past-reserved (recordOf m d) _ (past-place p _ (past-channel d _ passed .1))) .0 in
-      calm-set m d _ (undisturbed-rest _ _ rests rests) c)
+    let rests = past-resting (recordOf m d) None (past-reserved (recordOf m d) _ (past-place p _ (past-channel d _ passed .1))) .0 in
+    calm-set m d _ (undisturbed-rest _ _ rests rests) c)
 
 calm-fill : (m : Mean) (d : ℕ) (bytes : List ℕ) (c : ℕ) → Calm m (unlessRefused (fillRefused m d bytes) m (fillState m d bytes)) c
 calm-fill m d bytes c =
     calm-unless m _ c _ (λ passed.
-      let rests = past-resting (recordOf m d) None (past-reserved (recordOf m d) _ (past-sheet (sheetCheck bytes) _ (past-channel d _ passed .1))) .0 in
-      calm-set m d _ (undisturbed-rest _ _ rests rests) c)
+    let rests = past-resting (recordOf m d) None (past-reserved (recordOf m d) _ (past-sheet (sheetCheck bytes) _ (past-channel d _ passed .1))) .0 in
+    calm-set m d _ (undisturbed-rest _ _ rests rests) c)
 
 calm-stop : (m : Mean) (d c : ℕ) → Calm m (unlessRefused (stopRefused m d) m (stopState m d)) c
 calm-stop m d c =
     calm-unless m _ c _ (λ passed.
-      calm-set m d _
-        (record { runs = λ e. e; ran = λ e. e; program = λ _. refl; counts = λ _. refl; stop = λ _ e. absurd (let z : _≡_ {A = ℕ} 0 1 = cc in omega arith) }) c)
+    calm-set m d _
+    (record { runs = λ e. e; ran = λ e. e; program = λ _. refl; counts = λ _. refl; stop = λ _ e. absurd (let z : _≡_ {A = ℕ} 0 1 = cc in omega arith) }) c)
 
 -- START
 
 joined : (c : ℕ) (d : Channel) (ds : List Channel) → (d .0 ≡ c → ⊥)
-  → (times c (ds ++ d ∷ []) ≡ times c ds) × (0 < times c ds → before c (ds ++ d ∷ []) ≡ before c ds)
+    → (times c (ds ++ d ∷ []) ≡ times c ds) × (0 < times c ds → before c (ds ++ d ∷ []) ≡ before c ds)
 joined c d ds apart = (times-append c ds (d ∷ []) ∙ grind (arith, tells), before-append c ds (d ∷ []))
 
 calm-started : (m : Mean) (d : ℕ) (p : Stored) (c : ℕ) → (d ≡ c → ⊥) → Calm m (startProgram m d p) c
@@ -222,38 +223,42 @@ start-accepted : (m : Mean) (v : View) → Sound m v → (d : ℕ) (w : Words) (
 start-accepted m v sound d w c within passed = go (readProgram w) (past-channel d _ passed .1)
   where
     go : (r : Result Program ProgramFault)
-      → checkProgram r (λ p. checkReserved (recordOf m d) (checkResting (recordOf m d) (cond (m .quiet) (Some fault.Quiet) (emptyRefused (stored p) (recordOf m d .window))))) ≡ None
-      → Starting m d c (elim r [ Ok p ↦ Some (stored p) | Err f ↦ None ]) (elim r [ Ok p ↦ startProgram m d (stored p) | Err f ↦ m ])
-    go (Ok p) ok =
-        ( (λ e. calm-started m d (stored p) c (eqb-false d c e))
-        , (λ e.
-            let same : d ≡ c = eqb-true d c e in
-            let rests = past-resting (recordOf m d) _ (past-reserved (recordOf m d) _ ok) .0 in
-            let none : boolByte (recordOf m c .flags .running) ≡ 0 = ap (λ (i : ℕ). boolByte (recordOf m i .flags .running)) (sym same) ∙ ap boolByte rests in
-            ( ap (λ (i : ℕ). getD (set (m .records) i (started (stored p) (recordOf m i .window))) c absent .flags .running) same
-                ∙ ap (λ (r : Record). r .flags .running) (getD-set-same (m .records) c _ absent (omega (arith, sound .wide)))
-            , omega (arith, sound .channels c within .placed) )) )
+        → checkProgram r (λ p. checkReserved (recordOf m d) (checkResting (recordOf m d) (cond (m .quiet) (Some fault.Quiet) (emptyRefused (stored p) (recordOf m d .window))))) ≡ None
+        → Starting m d c (elim r [ Ok p ↦ Some (stored p) | Err f ↦ None ]) (elim r [ Ok p ↦ startProgram m d (stored p) | Err f ↦ m ])
+    go (Ok p) ok = (
+      (λ e. calm-started m d (stored p) c (eqb-false d c e)),
+      (λ e.
+          let same : d ≡ c = eqb-true d c e in
+          let rests = past-resting (recordOf m d) _ (past-reserved (recordOf m d) _ ok) .0 in
+          let none : boolByte (recordOf m c .flags .running) ≡ 0 = ap (λ (i : ℕ). boolByte (recordOf m i .flags .running)) (sym same) ∙ ap boolByte rests in (
+            ap (λ (i : ℕ). getD (set (m .records) i (started (stored p) (recordOf m i .window))) c absent .flags .running) same
+                ∙ ap (λ (r : Record). r .flags .running) (getD-set-same (m .records) c _ absent (omega (arith, sound .wide))),
+            omega (arith, sound .channels c within .placed),
+          )),
+    )
     go (Err f) ok = absurd (let z : _≡_ {A = ℕ} 0 1 = cc in omega arith)
 
 -- EVERY CALL BUT TURN
 
 start-step : (m : Mean) (v : View) → Sound m v → (d : ℕ) (w : Words) (c : ℕ) → c < 16 → (o : Refused) → startRefused m d w ≡ o
-  → (startsOn c (startIn (start d w) (accepted (doneUnless o))) ≡ false → Calm m (unlessRefused o m (startState m d w)) c)
-  × (startsOn c (startIn (start d w) (accepted (doneUnless o))) ≡ true → Begins (unlessRefused o m (startState m d w)) c)
+    → (startsOn c (startIn (start d w) (accepted (doneUnless o))) ≡ false → Calm m (unlessRefused o m (startState m d w)) c)
+    × (startsOn c (startIn (start d w) (accepted (doneUnless o))) ≡ true → Begins (unlessRefused o m (startState m d w)) c)
 start-step m v sound d w c within None is = start-accepted m v sound d w c within is
 start-step m v sound d w c within (Some f) is = ((λ _. calm-same m c), (λ e. absurd (let z : _≡_ {A = ℕ} 0 1 = cc in omega arith)))
 
 -- a call other than turn leaves the memory as it is; it leaves each running channel where it is, or starts it
 pub call-step : (x : Call) (a : Answer) (m n : Mean) (v u : View) → Sound m v → Step x a m v n u → isTurn x ≡ 0 → (c : ℕ) → c < 16
-  → (u ≡ v) × (startsOn c (startIn x (accepted a)) ≡ false → Calm m n c) × (startsOn c (startIn x (accepted a)) ≡ true → Begins n c)
+    → (u ≡ v) × (startsOn c (startIn x (accepted a)) ≡ false → Calm m n c) × (startsOn c (startIn x (accepted a)) ≡ true → Begins n c)
 call-step x a m n v u sound step quieter c within = go x step quieter
   where
     none : startsOn c None ≡ true → Begins n c
     none e = absurd (let z : _≡_ {A = ℕ} 0 1 = cc in omega arith)
+
     is-calm : (k : Mean) → n ≡ k → Calm m k c → startsOn c None ≡ false → Calm m n c
     is-calm k e calm _ = subst (λ y. Calm m y c) (sym e) calm
+
     go : (x : Call) → Step x a m v n u → isTurn x ≡ 0
-      → (u ≡ v) × (startsOn c (startIn x (accepted a)) ≡ false → Calm m n c) × (startsOn c (startIn x (accepted a)) ≡ true → Begins n c)
+        → (u ≡ v) × (startsOn c (startIn x (accepted a)) ≡ false → Calm m n c) × (startsOn c (startIn x (accepted a)) ≡ true → Begins n c)
     go reserve (is, to, same) e = (same, is-calm _ to (calm-reserve m v sound c), none)
     go (release d) (is, to, same) e = (same, is-calm _ to (calm-release m d c), none)
     go (put d p y) (is, to, same) e = (same, is-calm _ to (calm-put m d p y c), none)

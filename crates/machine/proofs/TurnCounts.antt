@@ -178,10 +178,10 @@ pub land-finals : (c : ℕ) (p : Piece) (ps : List Piece) → finals c (flightAf
 land-finals c p ps = grind (arith, tells)
 
 pub land-reach : (c : ℕ) (p : Piece) (ps : List Piece) → 1 ≤ p .due → finals c (p ∷ ps) ≤ 1 → 0 < finals c (flightAfter p ps)
-  → reach c (p ∷ ps) ≡ suc (reach c (flightAfter p ps))
+    → reach c (p ∷ ps) ≡ suc (reach c (flightAfter p ps))
 land-reach c p ps some once there = grind (arith, tells)
 
 -- a landing makes room, or there is one reply less to land before
 pub land-room : (p : Piece) (ps : List Piece) → 1 ≤ p .due → length (p ∷ ps) ≤ 4 → 4 ≤ length (flightAfter p ps)
-  → (1 ≤ untilRoom (flightAfter p ps)) × (untilRoom (p ∷ ps) ≡ suc (untilRoom (flightAfter p ps)))
+    → (1 ≤ untilRoom (flightAfter p ps)) × (untilRoom (p ∷ ps) ≡ suc (untilRoom (flightAfter p ps)))
 land-room p ps some few full = (grind (arith, tells), grind (arith, tells))

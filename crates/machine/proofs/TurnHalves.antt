@@ -27,15 +27,15 @@ use Rattle.machine.specs.declared.record.Record.{Record}
 
 -- a list in which one record was set
 pub set-cases : (rs : List Record) (d : ℕ) (r : Record) (c : ℕ)
-  → (getD (set rs d r) c absent ≡ getD rs c absent) ⊎ ((d ≡ c) × (getD (set rs d r) c absent ≡ r))
+    → (getD (set rs d r) c absent ≡ getD rs c absent) ⊎ ((d ≡ c) × (getD (set rs d r) c absent ≡ r))
 set-cases rs d r c =
     ⊎-elim
-      (λ same. ⊎-elim
-        (λ within. inr (sym same, ap (λ (i : ℕ). getD (set rs d r) i absent) same ∙ getD-set-same rs d r absent within))
-        (λ past. inl (ap (λ (l : List Record). getD l c absent) (set-past rs d r past)))
-        (cases-lt d (length rs)))
-      (λ apart. inl (getD-set-other rs d c r absent apart))
-      (cases-eq c d)
+    (λ same. ⊎-elim
+    (λ within. inr (sym same, ap (λ (i : ℕ). getD (set rs d r) i absent) same ∙ getD-set-same rs d r absent within))
+    (λ past. inl (ap (λ (l : List Record). getD l c absent) (set-past rs d r past)))
+    (cases-lt d (length rs)))
+    (λ apart. inl (getD-set-other rs d c r absent apart))
+    (cases-eq c d)
 
 -- what landing leaves of a record
 pub record Kept (r s : Record) : Type 0 where
@@ -98,7 +98,7 @@ pub record Between (w : ℕ) (m n : Mean) (v u : View) : Type 0 where
   pub full : 4 ≤ length (n .flight) → turnsTo w (untilRoom (n .flight)) (u .wait) + 1 ≤ turnsTo w (untilRoom (m .flight)) (v .wait)
 
 between-same : (w : ℕ) (m : Mean) (v u : View) → PiecesFit (m .flight) → length (m .flight) ≤ 4 → length (u .transit) ≡ total (m .flight) → Timely u
-  → ((n : ℕ) → 0 < length (m .flight) → 1 ≤ n → turnsTo w n (u .wait) + 1 ≤ turnsTo w n (v .wait)) → Between w m m v u
+    → ((n : ℕ) → 0 < length (m .flight) → 1 ≤ n → turnsTo w n (u .wait) + 1 ≤ turnsTo w n (v .wait)) → Between w m m v u
 between-same w m v u fit few tied timely less =
     record {
       singles = refl;
@@ -120,7 +120,7 @@ between-same w m v u fit few tied timely less =
     until-some (p ∷ ps) (within, more, eight, fits) four = grind (arith, tells)
 
 between-reply : (w : ℕ) → longest ≤ w → (m : Mean) (p : Piece) (ps : List Piece) (reply : Option ℕ) (v u : View) → m .flight ≡ p ∷ ps → PiecesFit (p ∷ ps) → length (p ∷ ps) ≤ 4
-  → length (v .transit) ≡ total (p ∷ ps) → length (v .transit) ≡ suc (length (u .transit)) → v .wait ≡ 0 → u .wait ≤ longest → Between w m (landPiece m p ps reply) v u
+    → length (v .transit) ≡ total (p ∷ ps) → length (v .transit) ≡ suc (length (u .transit)) → v .wait ≡ 0 → u .wait ≤ longest → Between w m (landPiece m p ps reply) v u
 between-reply w long m p ps reply v u is fit few tied first none short =
     record {
       singles = refl;
@@ -140,6 +140,7 @@ between-reply w long m p ps reply v u is fit few tied first none short =
     fly : (c : ℕ) → finals c (p ∷ ps) ≤ 1 → 0 < finals c (flightAfter p ps) → turnsTo w (reach c (flightAfter p ps)) (u .wait) + 1 ≤ turnsTo w (reach c (p ∷ ps)) (v .wait)
     fly c once there =
         rw (none, land-reach c p ps (fit .1) once there) (turns-land w (reach c (flightAfter p ps)) (u .wait) (reach-some c (flightAfter p ps) (land-fit p ps fit) there) (omega arith))
+
     room : 4 ≤ length (flightAfter p ps) → turnsTo w (untilRoom (flightAfter p ps)) (u .wait) + 1 ≤ turnsTo w (untilRoom (p ∷ ps)) (v .wait)
     room four =
         let less = land-room p ps (fit .1) few four in
@@ -150,15 +151,17 @@ between w long m v u t sound timely takes = go (m .flight) refl t takes
   where
     fitted : PiecesFit (m .flight)
     fitted = sound .pieces-fit
+
     tied : length (v .transit) ≡ total (m .flight)
     tied = sound .tied ∙ length-dues (m .flight)
+
     go : (ps : List Piece) → m .flight ≡ ps → (t : Taken) → TakenOnce ps t v u → Between w m (landed m ps t) v u
     go [] none t (_, same) =
         let e : View → Type 0 = λ x. Between w m m v x in
         subst e (sym same) (between-same w m v v fitted (sound .few) tied timely (λ n some. absurd (let z : length (m .flight) ≡ 0 = ap length none in omega arith)))
     go (p ∷ ps) is taken.Nothing takes =
         absurd (let none : length (v .transit) ≡ 0 = ap length (takes .transit .0) in
-          let some : 1 ≤ total (m .flight) = rw is (omega (arith, (rw is at fitted) .1)) in omega (arith, tied))
+        let some : 1 ≤ total (m .flight) = rw is (omega (arith, (rw is at fitted) .1)) in omega (arith, tied))
     go (p ∷ ps) is taken.NotYet takes =
         let same : length (u .transit) ≡ length (v .transit) = ap length (takes .transit .1) in
         between-same w m v u fitted (sound .few) (omega (arith, tied)) (λ some. omega (arith, timely (omega arith), takes .wait)) (λ n some one. turns-wait w n (v .wait) (u .wait) one (takes .wait))

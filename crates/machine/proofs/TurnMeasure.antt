@@ -45,9 +45,9 @@ wait-short w long m v sound timely some =
 room-most : (w : ℕ) → longest ≤ w → (m : Mean) (v : View) → Sound m v → Timely v → turnsTo w (untilRoom (m .flight)) (v .wait) ≤ 8 * (w + 1)
 room-most w long m v sound timely =
     ⊎-elim
-      (λ room. rw (lt-ltb (length (m .flight)) 4 room) (omega arith))
-      (λ full. turns-most w _ _ 8 (omega arith) (until-few (m .flight) (sound .pieces-fit)) (wait-short w long m v sound timely (omega arith)))
-      (cases-lt (length (m .flight)) 4)
+    (λ room. rw (lt-ltb (length (m .flight)) 4 room) (omega arith))
+    (λ full. turns-most w _ _ 8 (omega arith) (until-few (m .flight) (sound .pieces-fit)) (wait-short w long m v sound timely (omega arith)))
+    (cases-lt (length (m .flight)) 4)
 
 flying-most : (w : ℕ) → longest ≤ w → (m : Mean) (v : View) → Sound m v → Timely v → (c : ℕ) → 0 < finals c (m .flight) → turnsTo w (reach c (m .flight)) (v .wait) ≤ 32 * (w + 1)
 flying-most w long m v sound timely c there =
@@ -59,14 +59,14 @@ left-most w long m v sound timely c within =
     record {
       flying = λ there. omega (arith, flying-most w long m v sound timely c there);
       single = λ there.
-        let at = before-within c (m .singles) there in
-        let short = singles-short m v sound in
-        line-most w _ _ (omega (arith, byte-few (m .afterSingle))) room;
+          let at = before-within c (m .singles) there in
+          let short = singles-short m v sound in
+          line-most w _ _ (omega (arith, byte-few (m .afterSingle))) room;
       block = λ there.
-        let at = before-within c (m .blocks) there in
-        let short = blocks-short m v sound in
-        let last = sound .channels c within .within in
-        line-most w _ _ (omega (arith, byte-few (not (m .afterSingle)))) room;
+          let at = before-within c (m .blocks) there in
+          let short = blocks-short m v sound in
+          let last = sound .channels c within .within in
+          line-most w _ _ (omega (arith, byte-few (not (m .afterSingle)))) room;
     }
 
 -- a channel that runs has a turn left
@@ -74,12 +74,12 @@ pub left-some : (w : ℕ) (m : Mean) (v : View) (c t : ℕ) → Sound m v → c 
 left-some w m v c t sound within runs left =
     let placed = sound .channels c within .placed ∙ ap boolByte runs in
     ⊎-elim
-      (λ fly. omega (arith, left .flying fly, turns-some w (reach c (m .flight)) (v .wait)))
-      (λ none. ⊎-elim
-        (λ one. omega (arith, left .single one, turns-some w (untilRoom (m .flight)) (v .wait)))
-        (λ nor. omega (arith, left .block (omega arith), turns-some w (untilRoom (m .flight)) (v .wait)))
-        (cases-lt 0 (times c (m .singles))))
-      (cases-lt 0 (finals c (m .flight)))
+    (λ fly. omega (arith, left .flying fly, turns-some w (reach c (m .flight)) (v .wait)))
+    (λ none. ⊎-elim
+    (λ one. omega (arith, left .single one, turns-some w (untilRoom (m .flight)) (v .wait)))
+    (λ nor. omega (arith, left .block (omega arith), turns-some w (untilRoom (m .flight)) (v .wait)))
+    (cases-lt 0 (times c (m .singles))))
+    (cases-lt 0 (finals c (m .flight)))
 
 -- A TURN
 
@@ -114,9 +114,9 @@ module _ (w : ℕ) (long : longest ≤ w) (m k : Mean) (v x u : View) (sound : S
   waited there =
       let some = turns-some w (untilRoom (m .flight)) (v .wait) in
       ⊎-elim
-        (λ one. line-final w _ _ t some (left .single one))
-        (λ none. line-final w _ _ t some (left .block (omega arith)))
-        (cases-lt 0 (times c (m .singles)))
+      (λ one. line-final w _ _ t some (left .single one))
+      (λ none. line-final w _ _ t some (left .block (omega arith)))
+      (cases-lt 0 (times c (m .singles)))
 
   served-left : (n : Mean) (qs : List Request) → Served m k n c → SentAll qs x u → Sound n u → Timely u → Left w n u c t
   served-left n qs did sends after timely =
@@ -124,11 +124,11 @@ module _ (w : ℕ) (long : longest ≤ w) (m k : Mean) (v x u : View) (sound : S
       let some = turns-some w (untilRoom (m .flight)) (v .wait) in
       record {
         flying = λ there. ⊎-elim
-          (λ (was, same).
+            (λ (was, same).
             let due : 0 < length (x .transit) = omega (arith, mid .tied, some-due (k .flight) (mid .fit) (in-flight c (k .flight) was)) in
             rw (same, sent-waits qs x u sends due) (stays-flying was))
-          (λ wait. omega (arith, flying-most w long n u after timely c there, waited wait))
-          (did .flying there);
+            (λ wait. omega (arith, flying-most w long n u after timely c there, waited wait))
+            (did .flying there);
         single = λ there. let less = did .single there in line-service w _ _ _ _ t (less .1) room some (left .single (less .0));
         block = λ there. let less = did .block there in line-service w _ _ _ _ t (less .1) room some (left .block (less .0));
       }
@@ -145,18 +145,18 @@ module _ (w : ℕ) (long : longest ≤ w) (m k : Mean) (v x u : View) (sound : S
       let P : Option Channel → Type 0 = λ o. SentAll (requested k o) x u → Sound (served k o) u → Timely u → Left w (served k o) u c t in
       let L : View → Type 0 = λ y. Left w k y c t in
       cond-both (ltb (length (k .flight)) 4) _ _ P
-        (λ _. choice-left (who-between w m k v x mid))
-        (λ full sends after timely. subst L (sym sends) (full-left (ltb-false (length (k .flight)) 4 full)))
+      (λ _. choice-left (who-between w m k v x mid))
+      (λ full sends after timely. subst L (sym sends) (full-left (ltb-false (length (k .flight)) 4 full)))
 
 pub turn-timely : (a : Turned) (m n : Mean) (v u : View) → Turns a m n v u → Sound m v → Timely v → Timely u
 turn-timely a m n v u turns sound timely =
     sent-timely _ _ _ (turns .sends) (between longest (omega arith) m v (turns .between) (turns .answered) sound timely (turns .takes) .timely)
 
 pub turn-left : (w : ℕ) → longest ≤ w → (a : Turned) (m n : Mean) (v u : View) → Turns a m n v u → Sound m v → Timely v → Sound n u
-  → (c : ℕ) → c < 16 → (t : ℕ) → Left w m v c (suc t) → Left w n u c t
+    → (c : ℕ) → c < 16 → (t : ℕ) → Left w m v c (suc t) → Left w n u c t
 turn-left w long a m n v u turns sound timely after c within t left =
     let mid = between w long m v (turns .between) (turns .answered) sound timely (turns .takes) in
     let P : Mean → Type 0 = λ y. Sound y u in
     let L : Mean → Type 0 = λ y. Left w y u c t in
     subst L (sym (turns .after-is))
-      (service-left w long m _ v (turns .between) u sound mid c within t left (turns .sends) (subst P (turns .after-is) after) (turn-timely a m n v u turns sound timely))
+    (service-left w long m _ v (turns .between) u sound mid c within t left (turns .sends) (subst P (turns .after-is) after) (turn-timely a m n v u turns sound timely))

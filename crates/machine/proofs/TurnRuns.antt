@@ -33,6 +33,7 @@ runs-is m v c = go (recordOf m c .flags .running) refl
   where
     even : statusWord m c % 2 ≡ boolByte (recordOf m c .flags .running) % 2
     even = omega arith
+
     go : (b : Bool) → recordOf m c .flags .running ≡ b → runs (seen m v) c ≡ b
     go true is = ap (λ (n : ℕ). eqb n 1) (even ∙ ap (λ (b : Bool). boolByte b % 2) is)
     go false is = ap (λ (n : ℕ). eqb n 1) (even ∙ ap (λ (b : Bool). boolByte b % 2) is)
@@ -74,7 +75,7 @@ which turn = inr refl
 flying-runs : (m : Mean) (v : View) → Sound m v → (c : ℕ) → c < 16 → 0 < finals c (m .flight) → recordOf m c .flags .running ≡ true
 flying-runs m v sound c within there =
     ⊎-elim (λ e. e) (λ e. absurd (let z : boolByte (recordOf m c .flags .running) ≡ 0 = ap boolByte e in omega (arith, sound .channels c within .placed)))
-      (cases-bool (recordOf m c .flags .running))
+    (cases-bool (recordOf m c .flags .running))
 
 calm-complete : (m n : Mean) (v : View) → Sound m v → (c : ℕ) → c < 16 → Calm m n c → Complete m c → Complete n c
 calm-complete m n v sound c within calm complete there on =
@@ -85,7 +86,7 @@ calm-complete m n v sound c within calm complete there on =
 
 module _ (w : ℕ) (long : longest ≤ w) where
   call-going : (x : Call) (a : Answer) (h : History) (m n : Mean) (v u : View) → isTurn x ≡ 0 → Step x a m v n u → Sound n u → Going w h m v
-    → Going w (record { call = x; answer = a; after = seen n u } ∷ h) n u
+      → Going w (record { call = x; answer = a; after = seen n u } ∷ h) n u
   call-going x a h m n v u none step after going =
       let did = call-step x a m n v u (going .sound) step none in
       let same : u ≡ v = did 0 (omega arith) .0 in
@@ -94,33 +95,33 @@ module _ (w : ℕ) (long : longest ≤ w) where
         sound = after;
         timely = timely;
         soon = λ c within runs.
-          by-test (startsOn c (startIn x (accepted a)))
+            by-test (startsOn c (startIn x (accepted a)))
             (λ own.
-              let fresh : turnsSince c (record { call = x; answer = a; after = seen n u } ∷ h) ≡ 0 = cond-true _ _ _ own in
-              (8224 * (w + 1), (left-most w long n u after timely c within, rw fresh (omega arith))))
+            let fresh : turnsSince c (record { call = x; answer = a; after = seen n u } ∷ h) ≡ 0 = cond-true _ _ _ own in
+            (8224 * (w + 1), (left-most w long n u after timely c within, rw fresh (omega arith))))
             (λ other.
-              let calm = did c within .1 other in
-              let ran = calm .undisturbed .ran runs in
-              let past = going .soon c within ran in
-              let on : turnsSince c (record { call = x; answer = a; after = seen n u } ∷ h) ≡ turnsSince c h + isTurn x = cond-false _ _ _ other in
-              let L : View → Type 0 = λ y. Left w n y c (past .0) in
-              (past .0, (subst L (sym same) (calm-left w m n v c (past .0) calm ran (past .1 .0)), rw (on, none) (omega (arith, past .1 .1)))));
+            let calm = did c within .1 other in
+            let ran = calm .undisturbed .ran runs in
+            let past = going .soon c within ran in
+            let on : turnsSince c (record { call = x; answer = a; after = seen n u } ∷ h) ≡ turnsSince c h + isTurn x = cond-false _ _ _ other in
+            let L : View → Type 0 = λ y. Left w n y c (past .0) in
+            (past .0, (subst L (sym same) (calm-left w m n v c (past .0) calm ran (past .1 .0)), rw (on, none) (omega (arith, past .1 .1)))));
         complete = λ c within.
-          by-test (startsOn c (startIn x (accepted a)))
+            by-test (startsOn c (startIn x (accepted a)))
             (λ own there. absurd (omega (arith, did c within .2 own .1)))
             (λ other. calm-complete m n v (going .sound) c within (did c within .1 other) (going .complete c within));
       }
 
   turn-going : (a : Answer) (h : History) (m n : Mean) (v u : View) → Step turn a m v n u → Sound n u → Going w h m v
-    → Going w (record { call = turn; answer = a; after = seen n u } ∷ h) n u
+      → Going w (record { call = turn; answer = a; after = seen n u } ∷ h) n u
   turn-going a h m n v u (t, is, turns) after going =
       record {
         sound = after;
         timely = turn-timely t m n v u turns (going .sound) (going .timely);
         soon = λ c within runs.
-          let ran = turn-ran t m n v u turns (going .sound) (going .timely) c within runs in
-          let past = going .soon c within ran in
-          step c within (past .0) (left-some w m v c (past .0) (going .sound) within ran (past .1 .0)) (past .1 .0) (past .1 .1);
+            let ran = turn-ran t m n v u turns (going .sound) (going .timely) c within runs in
+            let past = going .soon c within ran in
+            step c within (past .0) (left-some w m v c (past .0) (going .sound) within ran (past .1 .0)) (past .1 .0) (past .1 .1);
         complete = λ c within. turn-complete t m n v u turns (going .sound) (going .timely) c within (going .complete c within);
       }
     where
@@ -129,27 +130,27 @@ module _ (w : ℕ) (long : longest ≤ w) where
       step c within (suc r) some left past = (r, (turn-left w long t m n v u turns (going .sound) (going .timely) after c within r left, omega arith))
 
   step-going : (x : Call) (a : Answer) (h : History) (m n : Mean) (v u : View) → Step x a m v n u → Sound n u → Going w h m v
-    → Going w (record { call = x; answer = a; after = seen n u } ∷ h) n u
+      → Going w (record { call = x; answer = a; after = seen n u } ∷ h) n u
   step-going x a h m n v u step after going =
       let P : Call → Type 0 = λ y. Step y a m v n u → Going w (record { call = y; answer = a; after = seen n u } ∷ h) n u in
       ⊎-elim
-        (λ none. call-going x a h m n v u none step after going)
-        (λ is. subst P (sym is) (λ s. turn-going a h m n v u s after going) step)
-        (which x)
+      (λ none. call-going x a h m n v u none step after going)
+      (λ is. subst P (sym is) (λ s. turn-going a h m n v u s after going) step)
+      (which x)
 
 -- THE END OF A PROGRAM
 
 -- only a turn ends a program
 ends-by-turn : (x : Call) (a : Answer) (m n : Mean) (v u : View) → Sound m v → Timely v → Step x a m v n u → (c : ℕ) → c < 16
-  → recordOf m c .flags .running ≡ true → recordOf n c .flags .running ≡ false → (x ≡ turn) × Ending m n c
+    → recordOf m c .flags .running ≡ true → recordOf n c .flags .running ≡ false → (x ≡ turn) × Ending m n c
 ends-by-turn x a m n v u sound timely step c within runs rests =
     let P : Call → Type 0 = λ y. Step y a m v n u → Ending m n c in
     ⊎-elim
-      (λ none.
-        let did = call-step x a m n v u sound step none c within in
-        absurd (by-test (startsOn c (startIn x (accepted a))) (λ own. both-ways _ rests (did .2 own .0)) (λ other. both-ways _ rests (did .1 other .undisturbed .runs runs))))
-      (λ is. (is, subst P (sym is) (λ (t, _, turns). turn-ends t m n v u turns sound timely c within runs rests) step))
-      (which x)
+    (λ none.
+    let did = call-step x a m n v u sound step none c within in
+    absurd (by-test (startsOn c (startIn x (accepted a))) (λ own. both-ways _ rests (did .2 own .0)) (λ other. both-ways _ rests (did .1 other .undisturbed .runs runs))))
+    (λ is. (is, subst P (sym is) (λ (t, _, turns). turn-ends t m n v u turns sound timely c within runs rests) step))
+    (which x)
 
 turn-begun : (x : Call) (a : Answer) (s : Seen) (h : History) (c : ℕ) → x ≡ turn → begun c (record { call = x; answer = a; after = s } ∷ h) ≡ begun c h
 turn-begun x a s h c is = let P : Call → Type 0 = λ y. begun c (record { call = y; answer = a; after = s } ∷ h) ≡ begun c h in subst P (sym is) refl
@@ -175,73 +176,73 @@ new-rests : (c : ℕ) → c < 16 → recordOf newMean c .flags .running ≡ fals
 new-rests c within = ap (λ (r : Record). r .flags .running) (getD-replicate 16 c (cleared false emptyWindow) absent within)
 
 module _
-  (cells : View) (nothing : cells .transit ≡ [])
-  (sound-new : Sound newMean cells)
-  (sound-step : (x : Call) (a : Answer) (m n : Mean) (v u : View) → Step x a m v n u → Sound m v → Sound n u)
+    (cells : View) (nothing : cells .transit ≡ [])
+    (sound-new : Sound newMean cells)
+    (sound-step : (x : Call) (a : Answer) (m n : Mean) (v u : View) → Step x a m v n u → Sound m v → Sound n u)
   where
-  pub going : (w : ℕ) → longest ≤ w → {h : History} {m : Mean} {v : View} → Run newMean cells h m v → Going w h m v
-  going w long begin =
-      record {
-        sound = sound-new;
-        timely = λ some. absurd (let z : length (cells .transit) ≡ 0 = ap length nothing in omega arith);
-        soon = λ c within runs. absurd (both-ways _ (new-rests c within) runs);
-        complete = λ c within there. absurd (omega arith);
-      }
-  going w long (next run step) =
-      let past = going w long run in
-      step-going w long _ _ _ _ _ _ _ step (sound-step _ _ _ _ _ _ step (past .sound)) past
+    pub going : (w : ℕ) → longest ≤ w → {h : History} {m : Mean} {v : View} → Run newMean cells h m v → Going w h m v
+    going w long begin =
+        record {
+          sound = sound-new;
+          timely = λ some. absurd (let z : length (cells .transit) ≡ 0 = ap length nothing in omega arith);
+          soon = λ c within runs. absurd (both-ways _ (new-rests c within) runs);
+          complete = λ c within there. absurd (omega arith);
+        }
+    going w long (next run step) =
+        let past = going w long run in
+        step-going w long _ _ _ _ _ _ _ step (sound-step _ _ _ _ _ _ step (past .sound)) past
 
-  -- no program still runs so many turns after its start
-  pub soon : {h : History} {m : Mean} {v : View} → Run newMean cells h m v → (c : ℕ) → c < 16 → runs (nowSeen (seen newMean cells) h) c ≡ true → turnsSince c h < turnBound
-  soon {h} {m} {v} run c within told =
-      let now = going longest (omega arith) run in
-      let ran : recordOf m c .flags .running ≡ true = sym (runs-is m v c) ∙ ap (λ (s : Seen). runs s c) (sym (now-seen run)) ∙ told in
-      let left = now .soon c within ran in
-      let some = left-some longest m v c (left .0) (now .sound) within ran (left .1 .0) in
-      omega (arith, left .1 .1)
+    -- no program still runs so many turns after its start
+    pub soon : {h : History} {m : Mean} {v : View} → Run newMean cells h m v → (c : ℕ) → c < 16 → runs (nowSeen (seen newMean cells) h) c ≡ true → turnsSince c h < turnBound
+    soon {h} {m} {v} run c within told =
+        let now = going longest (omega arith) run in
+        let ran : recordOf m c .flags .running ≡ true = sym (runs-is m v c) ∙ ap (λ (s : Seen). runs s c) (sym (now-seen run)) ∙ told in
+        let left = now .soon c within ran in
+        let some = left-some longest m v c (left .0) (now .sound) within ran (left .1 .0) in
+        omega (arith, left .1 .1)
 
-  module _ (linked : (h : History) (m : Mean) (v : View) → Run newMean cells h m v → Linked h m) where
-    -- the latest event ended the program of the channel
-    module _ (x : Call) (a : Answer) (h : History) (m n : Mean) (v u : View) (run : Run newMean cells h m v) (step : Step x a m v n u) (c : ℕ) (within : c < 16)
-      (ends : Ends (seen newMean cells) c (record { call = x; answer = a; after = seen n u } ∷ h)) where
-      ran : recordOf m c .flags .running ≡ true
-      ran = sym (runs-is m v c) ∙ ap (λ (s : Seen). runs s c) (sym (now-seen run)) ∙ ends .0
+    module _ (linked : (h : History) (m : Mean) (v : View) → Run newMean cells h m v → Linked h m) where
+      -- the latest event ended the program of the channel
+      module _ (x : Call) (a : Answer) (h : History) (m n : Mean) (v u : View) (run : Run newMean cells h m v) (step : Step x a m v n u) (c : ℕ) (within : c < 16)
+          (ends : Ends (seen newMean cells) c (record { call = x; answer = a; after = seen n u } ∷ h)) where
+        ran : recordOf m c .flags .running ≡ true
+        ran = sym (runs-is m v c) ∙ ap (λ (s : Seen). runs s c) (sym (now-seen run)) ∙ ends .0
 
-      by-turn : (x ≡ turn) × Ending m n c
-      by-turn =
-          let past = going longest (omega arith) run in
-          ends-by-turn x a m n v u (past .sound) (past .timely) step c within ran (sym (runs-is n u c) ∙ ends .1)
+        by-turn : (x ≡ turn) × Ending m n c
+        by-turn =
+            let past = going longest (omega arith) run in
+            ends-by-turn x a m n v u (past .sound) (past .timely) step c within ran (sym (runs-is n u c) ∙ ends .1)
 
-      -- the program is the one that was begun
-      program-is : (b : Begun) → begun c (record { call = x; answer = a; after = seen n u } ∷ h) ≡ Some b → recordOf m c .program ≡ b .program
-      program-is b is = same-program h m (linked h m v run) c within ran b (sym (turn-begun x a (seen n u) h c (by-turn .0)) ∙ is)
+        -- the program is the one that was begun
+        program-is : (b : Begun) → begun c (record { call = x; answer = a; after = seen n u } ∷ h) ≡ Some b → recordOf m c .program ≡ b .program
+        program-is b is = same-program h m (linked h m v run) c within ran b (sym (turn-begun x a (seen n u) h c (by-turn .0)) ∙ is)
 
-      due-none : (b : Begun) → begun c (record { call = x; answer = a; after = seen n u } ∷ h) ≡ Some b → hasReplies (b .program .mode) ≡ true
-        → landedCount c (record { call = x; answer = a; after = seen n u } ∷ h) ≡ sentCount c (record { call = x; answer = a; after = seen n u } ∷ h)
-      due-none b is replies =
-          let link = linked _ n u (next run step) in
-          ⊎-elim
+        due-none : (b : Begun) → begun c (record { call = x; answer = a; after = seen n u } ∷ h) ≡ Some b → hasReplies (b .program .mode) ≡ true
+            → landedCount c (record { call = x; answer = a; after = seen n u } ∷ h) ≡ sentCount c (record { call = x; answer = a; after = seen n u } ∷ h)
+        due-none b is replies =
+            let link = linked _ n u (next run step) in
+            ⊎-elim
             (λ (_, all, _). sym (link .landed c within) ∙ all ∙ link .sent c within)
             (λ (none, _). absurd (both-ways _ none (ap (λ (p : Stored). hasReplies (p .mode)) (program-is b is) ∙ replies)))
             (by-turn .1)
 
-      unsent-none : (b : Begun) → begun c (record { call = x; answer = a; after = seen n u } ∷ h) ≡ Some b → stopped c (record { call = x; answer = a; after = seen n u } ∷ h) ≡ false
-        → sentCount c (record { call = x; answer = a; after = seen n u } ∷ h) ≡ b .program .last + 1 - b .program .first
-      unsent-none b is unstopped =
-          let link = linked _ n u (next run step) in
-          let on : recordOf m c .flags .stop ≡ false = linked h m v run .stop c within ran ∙ sym (turn-stopped x a (seen n u) h c (by-turn .0)) ∙ unstopped in
-          let whole : recordOf m c .program .last + 1 - recordOf m c .program .first ≡ b .program .last + 1 - b .program .first =
+        unsent-none : (b : Begun) → begun c (record { call = x; answer = a; after = seen n u } ∷ h) ≡ Some b → stopped c (record { call = x; answer = a; after = seen n u } ∷ h) ≡ false
+            → sentCount c (record { call = x; answer = a; after = seen n u } ∷ h) ≡ b .program .last + 1 - b .program .first
+        unsent-none b is unstopped =
+            let link = linked _ n u (next run step) in
+            let on : recordOf m c .flags .stop ≡ false = linked h m v run .stop c within ran ∙ sym (turn-stopped x a (seen n u) h c (by-turn .0)) ∙ unstopped in
+            let whole : recordOf m c .program .last + 1 - recordOf m c .program .first ≡ b .program .last + 1 - b .program .first =
             ap (λ (p : Stored). p .last + 1 - p .first) (program-is b is) in
-          ⊎-elim
+            ⊎-elim
             (λ (fly, _, same). sym (link .sent c within) ∙ same ∙ going longest (omega arith) run .complete c within fly on ∙ whole)
             (λ (_, all). sym (link .sent c within) ∙ all on ∙ whole)
             (by-turn .1)
 
-    pub bounded : {h : History} {m : Mean} {v : View} → Run newMean cells h m v → Bounded (seen newMean cells) h
-    bounded begin = record { soon = soon begin; none-due = λ c within b is ends. absurd ends; none-unsent = λ c within b is ends. absurd ends }
-    bounded (next {h} {m} {n} {v} {w} {c} {a} run step) =
-        record {
-          soon = soon (next run step);
-          none-due = λ d within b is ends replies. due-none c a h m n v w run step d within ends b is replies;
-          none-unsent = λ d within b is ends unstopped. unsent-none c a h m n v w run step d within ends b is unstopped;
-        }
+      pub bounded : {h : History} {m : Mean} {v : View} → Run newMean cells h m v → Bounded (seen newMean cells) h
+      bounded begin = record { soon = soon begin; none-due = λ c within b is ends. absurd ends; none-unsent = λ c within b is ends. absurd ends }
+      bounded (next {h} {m} {n} {v} {w} {c} {a} run step) =
+          record {
+            soon = soon (next run step);
+            none-due = λ d within b is ends replies. due-none c a h m n v w run step d within ends b is replies;
+            none-unsent = λ d within b is ends unstopped. unsent-none c a h m n v w run step d within ends b is unstopped;
+          }

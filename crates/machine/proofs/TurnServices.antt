@@ -44,7 +44,7 @@ next-bound : (from last : ℕ) → from ≤ last → (min (boundary from) last �
 next-bound from last ordered more = omega arith
 
 next-pieces : (first sent last : ℕ) → first + sent ≤ last → boundary (first + sent) < last
-  → last / 8 - (first + (sent + (min (boundary (first + sent)) last + 1 - (first + sent)))) / 8 + 1 ≡ last / 8 - (first + sent) / 8
+    → last / 8 - (first + (sent + (min (boundary (first + sent)) last + 1 - (first + sent)))) / 8 + 1 ≡ last / 8 - (first + sent) / 8
 next-pieces first sent last ordered less =
     let e : first + (sent + (min (boundary (first + sent)) last + 1 - (first + sent))) ≡ boundary (first + sent) + 1 = omega arith in
     rw e (omega arith)
@@ -57,7 +57,7 @@ served-pieces r ordered more =
 -- LINES
 
 single-line-served : (c : ℕ) (s : Channel) (ss : List Channel) (a : Bool) → times c (s ∷ ss) ≤ 1 → 0 < times c ss
-  → (0 < times c (s ∷ ss)) × (2 * before c ss + 1 + 1 ≤ 2 * before c (s ∷ ss) + boolByte a)
+    → (0 < times c (s ∷ ss)) × (2 * before c ss + 1 + 1 ≤ 2 * before c (s ∷ ss) + boolByte a)
 single-line-served c s ss a once there = (omega arith, grind (arith, tells))
 
 -- where the block that was served goes
@@ -65,7 +65,7 @@ abbrev pub blocksAfter : Bool → Channel → List Channel → List Channel
 blocksAfter last b bs = cond last bs (bs ++ b ∷ [])
 
 block-line-other : (c : ℕ) (b : Channel) (bs : List Channel) (last : Bool) → (b .0 ≡ c → ⊥) → 0 < times c (blocksAfter last b bs)
-  → (0 < times c (b ∷ bs)) × (before c (blocksAfter last b bs) + 1 ≡ before c (b ∷ bs))
+    → (0 < times c (b ∷ bs)) × (before c (blocksAfter last b bs) + 1 ≡ before c (b ∷ bs))
 block-line-other c b bs true apart there = (omega arith, grind (arith, tells))
 block-line-other c b bs false apart there =
     let at : 0 < times c bs = (let e = times-append c bs (b ∷ []) in grind (arith, tells)) in
@@ -73,7 +73,7 @@ block-line-other c b bs false apart there =
     (omega arith, grind (arith, tells))
 
 block-line-same : (c : ℕ) (b : Channel) (bs : List Channel) (last : Bool) → b .0 ≡ c → times c (b ∷ bs) ≤ 1 → 0 < times c (blocksAfter last b bs)
-  → (last ≡ false) × (before c (blocksAfter last b bs) ≡ length bs) × (before c (b ∷ bs) ≡ 0)
+    → (last ≡ false) × (before c (blocksAfter last b bs) ≡ length bs) × (before c (b ∷ bs) ≡ 0)
 block-line-same c b bs true same once there = absurd (grind (arith, tells))
 block-line-same c b bs false same once there = (refl, before-absent c bs [] b (grind (arith, tells)) same, grind (arith, tells))
 
@@ -106,49 +106,49 @@ times-some : (c : ℕ) (ds : List Channel) → 0 < times c ds → 0 < length ds
 times-some c ds there = let e = before-within c ds there in omega arith
 
 single-gone : (m n : Mean) (c : ℕ) (s : Channel) (ss : List Channel) → m .singles ≡ s ∷ ss → n .singles ≡ ss → n .afterSingle ≡ true → times c (m .singles) ≤ 1
-  → 0 < times c (n .singles) → (0 < times c (m .singles)) × (singleServices n c + 1 ≤ singleServices m c)
+    → 0 < times c (n .singles) → (0 < times c (m .singles)) × (singleServices n c + 1 ≤ singleServices m c)
 single-gone m n c s ss was is after once = rw (is, after, was) (λ there. single-line-served c s ss (m .afterSingle) (rw was at once) there)
 
 single-passed : (m n : Mean) (c : ℕ) → n .singles ≡ m .singles → n .afterSingle ≡ false → (0 < length (m .singles) → m .afterSingle ≡ true)
-  → 0 < times c (n .singles) → (0 < times c (m .singles)) × (singleServices n c + 1 ≤ singleServices m c)
+    → 0 < times c (n .singles) → (0 < times c (m .singles)) × (singleServices n c + 1 ≤ singleServices m c)
 single-passed m n c is after turn = rw (is, after) (λ there. (there, rw (turn (times-some c (m .singles) there)) (omega arith)))
 
 block-passed : (m n : Mean) (c : ℕ) → n .blocks ≡ m .blocks → n .afterSingle ≡ true → (0 < length (m .blocks) → m .afterSingle ≡ false)
-  → (0 < times c (m .blocks) → piecesAfter (recordOf n c) ≡ piecesAfter (recordOf m c))
-  → 0 < times c (n .blocks) → (0 < times c (m .blocks)) × (blockServices n c + 1 ≤ blockServices m c)
+    → (0 < times c (m .blocks) → piecesAfter (recordOf n c) ≡ piecesAfter (recordOf m c))
+    → 0 < times c (n .blocks) → (0 < times c (m .blocks)) × (blockServices n c + 1 ≤ blockServices m c)
 block-passed m n c is after turn same =
     rw (is, after) (λ there. (there, rw (turn (times-some c (m .blocks) there)) (omega (arith, same there))))
 
 block-gone : (m n : Mean) (c : ℕ) (b : Channel) (bs : List Channel) (last : Bool) → m .blocks ≡ b ∷ bs → n .blocks ≡ blocksAfter last b bs → n .afterSingle ≡ false
-  → times c (m .blocks) ≤ 1 → length (m .blocks) ≤ 16
-  → ((b .0 ≡ c → ⊥) → piecesAfter (recordOf n c) ≡ piecesAfter (recordOf m c))
-  → (b .0 ≡ c → last ≡ false → piecesAfter (recordOf n c) + 1 ≡ piecesAfter (recordOf m c))
-  → 0 < times c (n .blocks) → (0 < times c (m .blocks)) × (blockServices n c + 1 ≤ blockServices m c)
+    → times c (m .blocks) ≤ 1 → length (m .blocks) ≤ 16
+    → ((b .0 ≡ c → ⊥) → piecesAfter (recordOf n c) ≡ piecesAfter (recordOf m c))
+    → (b .0 ≡ c → last ≡ false → piecesAfter (recordOf n c) + 1 ≡ piecesAfter (recordOf m c))
+    → 0 < times c (n .blocks) → (0 < times c (m .blocks)) × (blockServices n c + 1 ≤ blockServices m c)
 block-gone m n c b bs last was is after once short other same =
     let few : suc (length bs) ≤ 16 = omega (arith, ap length was) in
     rw (is, after, was) (λ there.
-      ⊎-elim
-        (λ here.
-          let line = block-line-same c b bs last here (rw was at once) there in
-          let e = same here (line .0) in
-          (grind (arith, tells), omega arith))
-        (λ apart.
-          let line = block-line-other c b bs last apart there in
-          let e = other apart in
-          (line .0, omega (arith, line .1)))
-        (cases-eq (b .0) c))
+    ⊎-elim
+    (λ here.
+    let line = block-line-same c b bs last here (rw was at once) there in
+    let e = same here (line .0) in
+    (grind (arith, tells), omega arith))
+    (λ apart.
+    let line = block-line-other c b bs last apart there in
+    let e = other apart in
+    (line .0, omega (arith, line .1)))
+    (cases-eq (b .0) c))
 
 times-head : (d : Channel) (ds : List Channel) → 0 < times (d .0) (d ∷ ds)
 times-head d ds = grind (arith, tells)
 
 flying-served : (c : ℕ) (replies : Bool) (ps : List Piece) (p : Piece) → 0 < finals c (cond replies (ps ++ p ∷ []) ps)
-  → ((0 < finals c ps) × (reach c (cond replies (ps ++ p ∷ []) ps) ≡ reach c ps)) ⊎ (p .channel .0 ≡ c)
+    → ((0 < finals c ps) × (reach c (cond replies (ps ++ p ∷ []) ps) ≡ reach c ps)) ⊎ (p .channel .0 ≡ c)
 flying-served c false ps p there = inl (there, refl)
 flying-served c true ps p there =
     ⊎-elim
-      (λ before. inl (before, reach-append c ps (p ∷ []) before))
-      (λ none. inr (let e = finals-append c ps (p ∷ []) in grind (arith, tells)))
-      (cases-lt 0 (finals c ps))
+    (λ before. inl (before, reach-append c ps (p ∷ []) before))
+    (λ none. inr (let e = finals-append c ps (p ∷ []) in grind (arith, tells)))
+    (cases-lt 0 (finals c ps))
 
 -- the first of each line
 pub first-single : (m : Mean) (v : View) (s : Channel) (ss : List Channel) → Sound m v → m .singles ≡ s ∷ ss → (s .0 < 16) × (0 < times (s .0) (m .singles)) × (recordOf m (s .0) .program .single ≡ true)
@@ -194,12 +194,12 @@ module _ (w : ℕ) (m k : Mean) (v u : View) (sound : Sound m v) (mid : Between 
       record {
         single = single-gone m n c s ss was (cond-true _ _ _ one ∙ ap rest (mid .singles ∙ was)) one (omega arith);
         block = block-passed m n c (cond-true _ _ _ one ∙ mid .blocks) one turn
-          (λ there. record-served (s .0) (λ same. absurd (
+            (λ there. record-served (s .0) (λ same. absurd (
             let P : ℕ → Type 0 = λ i. 0 < times i (m .singles) in
             let both : 0 < times c (m .singles) = subst P same (head .1) in omega arith)));
         flying = λ there. ⊎-elim inl
-          (λ same. inr (let P : ℕ → Type 0 = λ i. 0 < times i (m .singles) in let here : 0 < times c (m .singles) = subst P same (head .1) in omega arith))
-          (flying-served c _ (k .flight) _ there);
+            (λ same. inr (let P : ℕ → Type 0 = λ i. 0 < times i (m .singles) in let here : 0 < times c (m .singles) = subst P same (head .1) in omega arith))
+            (flying-served c _ (k .flight) _ there);
       }
 
   serve-block : (b : Channel) (bs : List Channel) → m .blocks ≡ b ∷ bs → (0 < length (m .singles) → m .afterSingle ≡ true) → Served m k (serve k b (recordOf k (b .0))) c
@@ -212,22 +212,22 @@ module _ (w : ℕ) (m k : Mean) (v u : View) (sound : Sound m v) (mid : Between 
       let facts = sound .channels (b .0) (head .0) in
       let kept = mid .kept (b .0) in
       let left : recordOf k (b .0) .program .first + recordOf k (b .0) .counts .sent ≤ recordOf k (b .0) .program .last =
-        rw (kept .program, kept .sent) (omega (arith, facts .ordered, facts .unsent (omega (arith, head .1)))) in
+      rw (kept .program, kept .sent) (omega (arith, facts .ordered, facts .unsent (omega (arith, head .1)))) in
       record {
         single = single-passed m n c (cond-false _ _ _ one ∙ mid .singles) one turn;
         block = block-gone m n c b bs (final (recordOf k (b .0))) was
-          (cond-false _ _ _ one ∙ ap (λ (l : List Channel). blocksAfter (final (recordOf k (b .0))) b (rest l)) (mid .blocks ∙ was))
-          one (omega arith) (blocks-short m v sound)
-          (record-served (b .0))
-          (λ same more.
+            (cond-false _ _ _ one ∙ ap (λ (l : List Channel). blocksAfter (final (recordOf k (b .0))) b (rest l)) (mid .blocks ∙ was))
+            one (omega arith) (blocks-short m v sound)
+            (record-served (b .0))
+            (λ same more.
             ap (λ (i : ℕ). piecesAfter (getD (set (k .records) (b .0) (servedRecord (recordOf k (b .0)))) i absent) + 1) (sym same)
-              ∙ ap (λ (r : Record). piecesAfter r + 1) (getD-set-same (k .records) (b .0) _ absent at)
-              ∙ served-pieces (recordOf k (b .0)) left more
-              ∙ kept-pieces _ _ kept
-              ∙ ap (λ (i : ℕ). piecesAfter (recordOf m i)) same);
+            ∙ ap (λ (r : Record). piecesAfter r + 1) (getD-set-same (k .records) (b .0) _ absent at)
+            ∙ served-pieces (recordOf k (b .0)) left more
+            ∙ kept-pieces _ _ kept
+            ∙ ap (λ (i : ℕ). piecesAfter (recordOf m i)) same);
         flying = λ there. ⊎-elim inl
-          (λ same. inr (let P : ℕ → Type 0 = λ i. 0 < times i (m .blocks) in let here : 0 < times c (m .blocks) = subst P same (head .1) in omega arith))
-          (flying-served c _ (k .flight) _ there);
+            (λ same. inr (let P : ℕ → Type 0 = λ i. 0 < times i (m .blocks) in let here : 0 < times c (m .blocks) = subst P same (head .1) in omega arith))
+            (flying-served c _ (k .flight) _ there);
       }
 
   pub outcome : {o : Option Channel} → Chosen (m .singles) (m .blocks) (m .afterSingle) o → Outcome m k c o

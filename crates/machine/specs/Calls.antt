@@ -104,12 +104,12 @@ fillState m c bytes = withRecord m c (withWindow (recordOf m c) (filled bytes (r
 abbrev pub lookAnswer : Mean → ℕ → ℕ → Result ℕ ChannelFault
 lookAnswer m c p =
     cond (leb c 15)
-      (cond (leb p 255)
-        (cond (recordOf m c .flags .reserved)
-          (elim (getD (recordOf m c .window) p None) [ None ↦ Err (fault.Empty p) | Some w ↦ Ok w ])
-          (Err fault.Unreserved))
-        (Err fault.NoPlace))
-      (Err fault.NoChannel)
+    (cond (leb p 255)
+    (cond (recordOf m c .flags .reserved)
+    (elim (getD (recordOf m c .window) p None) [ None ↦ Err (fault.Empty p) | Some w ↦ Ok w ])
+    (Err fault.Unreserved))
+    (Err fault.NoPlace))
+    (Err fault.NoChannel)
 
 -- a program in plain numbers
 abbrev pub stored : Program → Stored
@@ -166,8 +166,8 @@ stopState m c = withRecord m c (withFlags (recordOf m c) (record { reserved = re
 abbrev pub statusWord : Mean → ℕ → ℕ
 statusWord m c =
     boolByte (recordOf m c .flags .running) + boolByte (recordOf m c .flags .error) * 2 + boolByte (recordOf m c .flags .stop) * 4
-  + boolByte (recordOf m c .flags .reserved) * 8 + valueOr (lowestFree (m .records)) 0 * 16 + boolByte (not (isSome (lowestFree (m .records)))) * 256
-  + boolByte (m .quiet) * 512 + recordOf m c .counts .landed * 2 ^ 14 + recordOf m c .counts .sent * 2 ^ 23
+    + boolByte (recordOf m c .flags .reserved) * 8 + valueOr (lowestFree (m .records)) 0 * 16 + boolByte (not (isSome (lowestFree (m .records)))) * 256
+    + boolByte (m .quiet) * 512 + recordOf m c .counts .landed * 2 ^ 14 + recordOf m c .counts .sent * 2 ^ 23
 
 abbrev pub statusAnswer : Mean → ℕ → Result ℕ ChannelFault
 statusAnswer m c = cond (leb c 15) (Ok (statusWord m c)) (Err fault.NoChannel)

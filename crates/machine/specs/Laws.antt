@@ -39,8 +39,8 @@ tells p (Some w) = Ok w
 abbrev pub placeAlone : ℕ → Begun → ℕ → ℕ → Result ℕ ChannelFault
 placeAlone c b landed p =
     cond (leb (b .program .first) p && ltb p (b .program .first + landed))
-      (tells p (b .at .cell (cellAt (b .program) (p - b .program .first))))
-      (b .at .look c p)
+    (tells p (b .at .cell (cellAt (b .program) (p - b .program .first))))
+    (b .at .look c p)
 
 abbrev pub wordTold : Result ℕ ChannelFault → ℕ
 wordTold (Ok w) = w
@@ -61,9 +61,9 @@ pub record Traced (opening : Seen) (h : History) : Type 0 where
   pub sent : (c : ℕ) → c < 16 → sentTold (nowSeen opening h) c ≡ sentCount c h
   pub landed : (c : ℕ) → c < 16 → landedTold (nowSeen opening h) c ≡ landedCount c h
   pub places : (c : ℕ) → c < 16 → (b : Begun) → begun c h ≡ Some b → (Clashes c h → ⊥) → touched c h ≡ false
-    → (p : ℕ) → p < 256 → nowSeen opening h .look c p ≡ placeAlone c b (landedCount c h) p
+      → (p : ℕ) → p < 256 → nowSeen opening h .look c p ≡ placeAlone c b (landedCount c h) p
   pub cells : (c : ℕ) → c < 16 → (b : Begun) → begun c h ≡ Some b → (Clashes c h → ⊥) → touched c h ≡ false
-    → (i : ℕ) → i ≤ b .program .last - b .program .first → nowSeen opening h .cell (cellAt (b .program) i) ≡ cellAlone c b (sentCount c h) i
+      → (i : ℕ) → i ≤ b .program .last - b .program .first → nowSeen opening h .cell (cellAt (b .program) i) ≡ cellAlone c b (sentCount c h) i
 
 -- WORDS SENT TO A CELL
 
@@ -138,9 +138,9 @@ Ends opening c (e ∷ h) = (runs (nowSeen opening h) c ≡ true) × (runs (e .af
 pub record Bounded (opening : Seen) (h : History) : Type 0 where
   pub soon : (c : ℕ) → c < 16 → runs (nowSeen opening h) c ≡ true → turnsSince c h < turnBound
   pub none-due : (c : ℕ) → c < 16 → (b : Begun) → begun c h ≡ Some b → Ends opening c h → hasReplies (b .program .mode) ≡ true
-    → landedCount c h ≡ sentCount c h
+      → landedCount c h ≡ sentCount c h
   pub none-unsent : (c : ℕ) → c < 16 → (b : Begun) → begun c h ≡ Some b → Ends opening c h → stopped c h ≡ false
-    → sentCount c h ≡ b .program .last + 1 - b .program .first
+      → sentCount c h ≡ b .program .last + 1 - b .program .first
 
 pub record Law (opening : Seen) (h : History) : Type 0 where
   pub traced : Traced opening h
@@ -152,7 +152,7 @@ pub record Keeps (call : Call) (answer : Answer) (before : Mean) (was : View) (a
   pub step : Step call answer before was after is
   pub extends : (cells : View) (h : History) → Run newMean cells h before was → Run newMean cells (record { call = call; answer = answer; after = seen after is } ∷ h) after is
   pub law : (cells : View) (h : History) → cells .transit ≡ [] → Run newMean cells h before was
-    → Law (seen newMean cells) (record { call = call; answer = answer; after = seen after is } ∷ h)
+      → Law (seen newMean cells) (record { call = call; answer = answer; after = seen after is } ∷ h)
 
 -- What a new mover says: the empty run, and its law.
 pub record Opens (m : Mean) (v : View) : Type 0 where

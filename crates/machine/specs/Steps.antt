@@ -86,4 +86,4 @@ History = List Event
 pub data Run (opening : Mean) (cells : View) : History → Mean → View → Type 0 where
   begin : Run opening cells [] opening cells
   next : {h : History} {m n : Mean} {v w : View} {c : Call} {a : Answer}
-    → Run opening cells h m v → Step c a m v n w → Run opening cells (record { call = c; answer = a; after = seen n w } ∷ h) n w
+      → Run opening cells h m v → Step c a m v n w → Run opening cells (record { call = c; answer = a; after = seen n w } ∷ h) n w

@@ -147,8 +147,8 @@ serve m c r = record {
   singles = cond (r .program .single) (rest (m .singles)) (m .singles);
   blocks = cond (r .program .single) (m .blocks) (cond (final r) (rest (m .blocks)) (rest (m .blocks) ++ c ∷ []));
   flight = cond (hasReplies (r .program .mode))
-    (m .flight ++ record { channel = c; next = record { 0 = nextPiece r .from }; due = pieceLength (nextPiece r); last = final r } ∷ [])
-    (m .flight);
+      (m .flight ++ record { channel = c; next = record { 0 = nextPiece r .from }; due = pieceLength (nextPiece r); last = final r } ∷ [])
+      (m .flight);
   quiet = m .quiet;
   afterSingle = r .program .single;
 }

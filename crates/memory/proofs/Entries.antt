@@ -21,9 +21,12 @@ use Rattle.memory.specs.declared.catalogue.Entry.{Entry}
 -- the entry found in the rest is found in the whole
 found-later : (a : ℕ) (e : Entry) (es : List Entry) → eqb (cellOf e) a ≡ false → (o : Option ℕ) → Found a es o → Found a (e ∷ es) (mapped suc o)
 found-later a e es other None none = cond-false _ _ _ other ∙ none
-found-later a e es other (Some i) (within, word, cell, change) =
-    ( omega arith, cond-false _ _ _ other ∙ word, cell
-    , λ w b. let later = change w b in let apart : cellOf e ≡ a → ⊥ = eqb-false (cellOf e) a other in grind (arith, tells) )
+found-later a e es other (Some i) (within, word, cell, change) = (
+  omega arith,
+  cond-false _ _ _ other ∙ word,
+  cell,
+  λ w b. let later = change w b in let apart : cellOf e ≡ a → ⊥ = eqb-false (cellOf e) a other in grind (arith, tells),
+)
 
 found-here : (a : ℕ) (e : Entry) (es : List Entry) → eqb (cellOf e) a ≡ true → Found a (e ∷ es) (Some 0)
 found-here a e es here =

@@ -55,7 +55,7 @@ abbrev pub Found : ℕ → List Entry → Option ℕ → Type 0
 Found a es None = entryWord es a ≡ None
 Found a es (Some i) =
     (i < length es) × (entryWord es a ≡ Some (getD es i absent .word)) × (cellOf (getD es i absent) ≡ a)
-  × ((w b : ℕ) → entryWord (set es i (withWord (getD es i absent) w)) b ≡ cond (eqb b a) (Some w) (entryWord es b))
+    × ((w b : ℕ) → entryWord (set es i (withWord (getD es i absent) w)) b ≡ cond (eqb b a) (Some w) (entryWord es b))
 
 -- check 42: each cell lies above the one before
 abbrev pub ifRising : Option ℕ → Result (Unit {0}) MemoryFault

@@ -27,7 +27,7 @@ lowest-is-first (r ∷ rs) = turned (r .flags .reserved) (Some 0) (mapped suc (l
 
 -- one place at a time
 empty-opened : (last p : ℕ) (window : Window) → p ≤ last
-  → firstEmpty (last + 1 - p) p window ≡ cond (isSome (getD window p None)) (firstEmpty (last + 1 - (p + 1)) (p + 1) window) (Some p)
+    → firstEmpty (last + 1 - p) p window ≡ cond (isSome (getD window p None)) (firstEmpty (last + 1 - (p + 1)) (p + 1) window) (Some p)
 empty-opened last p window more = let e : last + 1 - p ≡ suc (last + 1 - (p + 1)) = omega arith in ap (λ (n : ℕ). firstEmpty n p window) e
 
 pub empty-more : (last p : ℕ) (window : Window) → p ≤ last → isSome (getD window p None) ≡ true → firstEmpty (last + 1 - p) p window ≡ firstEmpty (last + 1 - (p + 1)) (p + 1) window

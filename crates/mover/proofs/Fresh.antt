@@ -26,10 +26,10 @@ assembled r singles blocks flight =
     record { records = replicate 16 r; singles = singles; blocks = blocks; flight = flight; quiet = false; afterSingle = false }
 
 pub new-mean : (r : Record) (singles blocks : List Channel) (flight : List Piece) → r ≡ cleared false emptyWindow → singles ≡ [] → blocks ≡ [] → flight ≡ []
-  → assembled r singles blocks flight ≡ newMean
+    → assembled r singles blocks flight ≡ newMean
 new-mean r singles blocks flight e s b f =
     ap (λ (x : Record). assembled x singles blocks flight) e ∙ ap (λ (x : List Channel). assembled (cleared false emptyWindow) x blocks flight) s
-      ∙ ap (λ (x : List Channel). assembled (cleared false emptyWindow) [] x flight) b ∙ ap (assembled (cleared false emptyWindow) [] []) f
+    ∙ ap (λ (x : List Channel). assembled (cleared false emptyWindow) [] x flight) b ∙ ap (assembled (cleared false emptyWindow) [] []) f
 
 idle-transit : (l : List (Option ℕ)) → _≡_ {A = Result (Unit {0}) MemoryFault} (cond (ltb 0 (length l)) (Err InTransit) (Ok tt)) (Ok tt) → l ≡ []
 idle-transit [] e = refl

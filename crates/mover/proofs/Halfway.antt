@@ -22,21 +22,20 @@ use Rattle.mover.specs.Meaning.{mean, LinesSound, MoverSound}
 use Rattle.mover.specs.declared.mover.Mover.{Mover}
 
 module _ {M : Type 0} (hall : Ghosts M) (s t : Mover M) (sound : MoverSound hall s) (memory : hall .sound (t .memory)) (lines : LinesSound (t .state)) where
-
   -- a reply landed for the oldest piece
   pub landed-sound : (p : Piece) (reply : Option ℕ) → mean s .flight ≡ p ∷ rest (mean s .flight) → Takes (Reply reply) (hall .view (s .memory)) (hall .view (t .memory))
-    → mean t ≡ landPiece (mean s) p (rest (mean s .flight)) reply → MoverSound hall t
+      → mean t ≡ landPiece (mean s) p (rest (mean s .flight)) reply → MoverSound hall t
   landed-sound p reply head takes after =
       record {
         memory = memory;
         lines = lines;
         state = subst (λ (m : Mean). Sound m (hall .view (t .memory))) (sym after)
-          (sound-landed (mean s) (hall .view (s .memory)) (hall .view (t .memory)) (p ∷ rest (mean s .flight)) (Reply reply) head takes (sound .state));
+            (sound-landed (mean s) (hall .view (s .memory)) (hall .view (t .memory)) (p ∷ rest (mean s .flight)) (Reply reply) head takes (sound .state));
       }
 
   pub landed-lands : (p : Piece) (reply : Option ℕ) → mean s .flight ≡ p ∷ rest (mean s .flight) → Takes (Reply reply) (hall .view (s .memory)) (hall .view (t .memory))
-    → mean t ≡ landPiece (mean s) p (rest (mean s .flight)) reply
-    → Lands (lands.Reply (p .channel) (p .next) (isSome reply)) (mean s) (mean t) (hall .view (s .memory)) (hall .view (t .memory))
+      → mean t ≡ landPiece (mean s) p (rest (mean s .flight)) reply
+      → Lands (lands.Reply (p .channel) (p .next) (isSome reply)) (mean s) (mean t) (hall .view (s .memory)) (hall .view (t .memory))
   landed-lands p reply head takes after =
       record {
         answered = Reply reply;
@@ -51,5 +50,5 @@ module _ {M : Type 0} (hall : Ghosts M) (s t : Mover M) (sound : MoverSound hall
         memory = memory;
         lines = lines;
         state = subst (λ (m : Mean). Sound m (hall .view (t .memory))) (sym after)
-          (sound-served (mean s) (hall .view (s .memory)) (hall .view (t .memory)) (serviced (mean s)) refl sends (sound .state));
+            (sound-served (mean s) (hall .view (s .memory)) (hall .view (t .memory)) (serviced (mean s)) refl sends (sound .state));
       }

@@ -13,8 +13,8 @@ use Rattle.mover.specs.Meaning.{mean, LinesSound, MoverSound}
 use Rattle.mover.specs.declared.mover.Mover.{Mover}
 
 pub kept-by : {M : Type 0} (hall : Ghosts M) (s t : Mover M) (n : Mean) → MoverSound hall s
-  → t .memory ≡ s .memory → LinesSound (t .state)
-  → mean t ≡ n → Sound n (hall .view (s .memory)) → MoverSound hall t
+    → t .memory ≡ s .memory → LinesSound (t .state)
+    → mean t ≡ n → Sound n (hall .view (s .memory)) → MoverSound hall t
 kept-by {M} hall s t n sound same lines is kept =
     record {
       memory = subst (λ (x : M). hall .sound x) (sym same) (sound .memory);

@@ -52,11 +52,16 @@ oldest m v p ps sound head =
     let h = sound .channels c (at .low) in
     let fits = subst PiecesFit head (sound .pieces-fit) in
     let places : countUp (p .due) (p .next .0) ++ placesDue c (dues ps) ≡ countUp (stillDue (recordOf m c)) (recordOf m c .program .first + recordOf m c .counts .landed) =
-          sym (ap (λ (l : List ℕ). l ++ placesDue c (dues ps)) (places-own c (p .due) (p .next .0))) ∙ sym (places-append c (dueFrom (p .due) c (p .next .0)) (dues ps))
-            ∙ ap (λ (l : List Piece). placesDue c (dues l)) (sym head) ∙ h .due in
+    sym (ap (λ (l : List ℕ). l ++ placesDue c (dues ps)) (places-own c (p .due) (p .next .0))) ∙ sym (places-append c (dueFrom (p .due) c (p .next .0)) (dues ps))
+    ∙ ap (λ (l : List Piece). placesDue c (dues l)) (sym head) ∙ h .due in
     let many : p .due ≤ stillDue (recordOf m c) =
-          omega (arith, ap length places, length-append (countUp (p .due) (p .next .0)) (placesDue c (dues ps)), length-count (p .due) (p .next .0),
-            length-count (stillDue (recordOf m c)) (recordOf m c .program .first + recordOf m c .counts .landed)) in
+    omega (
+      arith,
+      ap length places,
+      length-append (countUp (p .due) (p .next .0)) (placesDue c (dues ps)),
+      length-count (p .due) (p .next .0),
+      length-count (stillDue (recordOf m c)) (recordOf m c .program .first + recordOf m c .counts .landed),
+    ) in
     let most = due-most (recordOf m c) in
     record {
       low = at .low;

@@ -28,17 +28,17 @@ sent-last [] q before between after done one = (after, (subst (λ (v : View). Se
 sent-last (x ∷ qs) q before between after (next, (first, rest)) one = (next, (first, sent-last qs q next between after rest one))
 
 pub sent-more : (r : Record) (from p : ℕ) (before between after : View) → from ≤ p → SentAll (requestsFrom r (p - from) from) before between
-  → Sends (requestAt r p) (Ok tt) between after → SentAll (requestsFrom r (p + 1 - from) from) before after
+    → Sends (requestAt r p) (Ok tt) between after → SentAll (requestsFrom r (p + 1 - from) from) before after
 sent-more r from p before between after low done one =
     let count : p + 1 - from ≡ suc (p - from) = omega arith in
     let here : from + (p - from) ≡ p = omega arith in
     subst (λ (l : List Request). SentAll l before after)
-      (sym (ap (λ (n : ℕ). requestsFrom r n from) count ∙ requests-more r (p - from) from ∙ ap (λ (k : ℕ). requestsFrom r (p - from) from ++ requestAt r k ∷ []) here))
-      (sent-last (requestsFrom r (p - from) from) (requestAt r p) before between after done one)
+    (sym (ap (λ (n : ℕ). requestsFrom r n from) count ∙ requests-more r (p - from) from ∙ ap (λ (k : ℕ). requestsFrom r (p - from) from ++ requestAt r k ∷ []) here))
+    (sent-last (requestsFrom r (p - from) from) (requestAt r p) before between after done one)
 
 -- while there is room for the whole piece, no request of it is refused
 pub room-left : (r : Record) (q : Request) (from p size : ℕ) (before between : View) (f : MemoryFault) → from ≤ p → p < from + size
-  → length (before .transit) + size ≤ 32 → SentAll (requestsFrom r (p - from) from) before between → (after : View) → Sends q (Err f) between after → ⊥
+    → length (before .transit) + size ≤ 32 → SentAll (requestsFrom r (p - from) from) before between → (after : View) → Sends q (Err f) between after → ⊥
 room-left r q from p size before between f low within room done after one =
     let long = sent-transit r (p - from) from before between done in
     let few : length (between .transit) < 32 = grind (arith, tells) in

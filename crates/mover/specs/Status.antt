@@ -20,4 +20,4 @@ freeFields (Some c) = c .0 * 16
 abbrev pub statusOf : Flags → Counts → Option Channel → Bool → ℕ
 statusOf flags counts free quiet =
     boolByte (flags .running) + boolByte (flags .error) * 2 + boolByte (flags .stop) * 4 + boolByte (flags .reserved) * 8
-  + freeFields free + boolByte quiet * 512 + counts .landed * 2 ^ 14 + counts .sent * 2 ^ 23
+    + freeFields free + boolByte quiet * 512 + counts .landed * 2 ^ 14 + counts .sent * 2 ^ 23

@@ -31,7 +31,7 @@ module _ {X : Type 0} (test : X → Bool) (absent : X) where
   passed-none xs = no-shift (firstIndex test xs)
 
   opened : (xs : List X) (i : ℕ) → i < length xs → PassedTo xs i
-    → firstIndex test xs ≡ mapped (λ n. n + i) (cond (test (getD xs i absent)) (Some 0) (mapped suc (firstIndex test (drop (i + 1) xs))))
+      → firstIndex test xs ≡ mapped (λ n. n + i) (cond (test (getD xs i absent)) (Some 0) (mapped suc (firstIndex test (drop (i + 1) xs))))
   opened xs i within passed =
       passed ∙ ap (λ (l : List X). mapped (λ n. n + i) (firstIndex test l)) (drop-cons xs i absent within ∙ ap (λ (n : ℕ). getD xs i absent ∷ drop n xs) (sym (add-one i)))
 

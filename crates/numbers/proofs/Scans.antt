@@ -21,10 +21,10 @@ module _ {X : Type 0} (key : X → ℕ) where
 
   -- at an index within, what is left begins with the element there, whose key is k
   opened : (xs : List X) (i : ℕ) (before : Option ℕ) (x : X) (k : ℕ) → i < length xs → x ≡ getD xs i x → k ≡ key x → RisesTo xs i before
-    → notRising key xs ≡ cond (above before k) (notRisingFrom key (i + 1) (Some k) (drop (i + 1) xs)) (Some i)
+      → notRising key xs ≡ cond (above before k) (notRisingFrom key (i + 1) (Some k) (drop (i + 1) xs)) (Some i)
   opened xs i before x k within read keyed rises =
       rises ∙ ap (notRisingFrom key i before) (drop-cons xs i x within ∙ ap (λ (y : X). y ∷ drop (suc i) xs) (sym read) ∙ ap (λ (n : ℕ). x ∷ drop n xs) (sym (add-one i)))
-        ∙ ap (λ (n : ℕ). cond (above before n) (notRisingFrom key (i + 1) (Some n) (drop (i + 1) xs)) (Some i)) (sym keyed)
+      ∙ ap (λ (n : ℕ). cond (above before n) (notRisingFrom key (i + 1) (Some n) (drop (i + 1) xs)) (Some i)) (sym keyed)
 
   pub rises-more : (xs : List X) (i : ℕ) (before : Option ℕ) (x : X) (k : ℕ) → i < length xs → x ≡ getD xs i x → k ≡ key x → RisesTo xs i before → true ≡ above before k → RisesTo xs (i + 1) (Some k)
   rises-more xs i before x k within read keyed rises up = opened xs i before x k within read keyed rises ∙ cond-true _ _ _ (sym up)
@@ -50,9 +50,9 @@ module _ {X : Type 0} (key : X → ℕ) where
   rest-above n b [] d j rises within = absurd (omega arith)
   rest-above n b (x ∷ xs) d j rises within =
       cond-both (ltb b (key x)) _ _ (λ (o : Option ℕ). o ≡ None → b < key (getD (x ∷ xs) j d))
-        (λ up rest. go j within (ltb-true b (key x) up) (λ k inside. rest-above (n + 1) (key x) xs d k rest inside))
-        (λ _ e. absurd (let z : _≡_ {A = ℕ} 0 1 = cc in omega arith))
-        rises
+      (λ up rest. go j within (ltb-true b (key x) up) (λ k inside. rest-above (n + 1) (key x) xs d k rest inside))
+      (λ _ e. absurd (let z : _≡_ {A = ℕ} 0 1 = cc in omega arith))
+      rises
     where
       go : (k : ℕ) → k < suc (length xs) → b < key x → ((m : ℕ) → m < length xs → key x < key (getD xs m d)) → b < key (getD (x ∷ xs) k d)
       go zero inside up later = up
@@ -63,10 +63,10 @@ module _ {X : Type 0} (key : X → ℕ) where
   rising-from n before (x ∷ xs) d i zero rises less within = absurd (omega arith)
   rising-from n before (x ∷ xs) d zero (suc j) rises less within =
       cond-both (above before (key x)) _ _ (λ (o : Option ℕ). o ≡ None → key x < key (getD xs j d))
-        (λ _ rest. rest-above (n + 1) (key x) xs d j rest (omega arith)) (λ _ e. absurd (let z : _≡_ {A = ℕ} 0 1 = cc in omega arith)) rises
+      (λ _ rest. rest-above (n + 1) (key x) xs d j rest (omega arith)) (λ _ e. absurd (let z : _≡_ {A = ℕ} 0 1 = cc in omega arith)) rises
   rising-from n before (x ∷ xs) d (suc i) (suc j) rises less within =
       cond-both (above before (key x)) _ _ (λ (o : Option ℕ). o ≡ None → key (getD xs i d) < key (getD xs j d))
-        (λ _ rest. rising-from (n + 1) (Some (key x)) xs d i j rest (omega arith) (omega arith)) (λ _ e. absurd (let z : _≡_ {A = ℕ} 0 1 = cc in omega arith)) rises
+      (λ _ rest. rising-from (n + 1) (Some (key x)) xs d i j rest (omega arith) (omega arith)) (λ _ e. absurd (let z : _≡_ {A = ℕ} 0 1 = cc in omega arith)) rises
 
   pub rising-order : (xs : List X) (d : X) (i j : ℕ) → notRising key xs ≡ None → i < j → j < length xs → key (getD xs i d) < key (getD xs j d)
   rising-order xs d i j rises less within = rising-from 0 None xs d i j rises less within

@@ -1,7 +1,7 @@
 use crate::choice::Choice;
 use crate::choice::ChoiceDebug;
-use crate::choice::ChoicePartialEq;
 use crate::choice::ChoiceOperator;
+use crate::choice::ChoicePartialEq;
 use crate::mode::Mode;
 use crate::operator::Operator;
 ghost use mathlib.Core.Path.{_≡_};

@@ -24,8 +24,8 @@ goes-none calls answers m v cells nothing run =
     record { history = []; run = run; law = lawful cells [] m v nothing run; calls-asked = refl; answers-told = refl }
 
 pub goes-more : (calls : List Call) (answers : List Answer) (i : ℕ) (d : Call) (a : Answer) (before m n : Mean) (was v w : View)
-  → i < length calls → i < length answers → GoesOn calls answers i before was m v → Keeps (callOf (getD calls i d)) a m v n w
-  → GoesOn calls (set answers i a) (i + 1) before was n w
+    → i < length calls → i < length answers → GoesOn calls answers i before was m v → Keeps (callOf (getD calls i d)) a m v n w
+    → GoesOn calls (set answers i a) (i + 1) before was n w
 goes-more calls answers i d a before m n was v w within room so-far one cells nothing opening =
     let ran = so-far cells nothing opening in
     let c = getD calls i d in
@@ -34,6 +34,6 @@ goes-more calls answers i d a before m n was v w within room so-far one cells no
       run = one .extends cells (ran .history) (ran .run);
       law = one .law cells (ran .history) nothing (ran .run);
       calls-asked =
-        ap (λ (l : List defined.Call). l ++ callOf c ∷ []) (ran .calls-asked) ∙ sym (ap callsOf (take-more calls i d within) ∙ calls-push (take i calls) c);
+          ap (λ (l : List defined.Call). l ++ callOf c ∷ []) (ran .calls-asked) ∙ sym (ap callsOf (take-more calls i d within) ∙ calls-push (take i calls) c);
       answers-told = ap (λ (l : List Answer). l ++ a ∷ []) (ran .answers-told) ∙ sym (take-more-set answers i a room);
     }

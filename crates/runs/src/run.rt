@@ -89,7 +89,11 @@ pub struct Returned<M> {
 
 // A whole run: makes a new mover over the memory and carries out as many of the calls as there are places for their answers.
 // A memory with replies in transit is refused and given back, and no answer is written.
-pub fn run<M: HallMemory>(memory: M, calls: &[Call<'_>], answers: &mut [Answer]) -> Result<Mover<M>, Returned<M>>
+pub fn run<M: HallMemory>(
+    memory: M,
+    calls: &[Call<'_>],
+    answers: &mut [Answer],
+) -> Result<Mover<M>, Returned<M>>
     requires { ⌜ M·HallMemory .sound memory ⌝ }
     ensures { λ r. ⌜ Cases r (RanWhole M·HallMemory memory (now (calls .entry)) (now (answers .exit))) (GaveBack M·HallMemory memory (now (answers .entry)) (now (answers .exit))) ⌝ }
 {

@@ -28,11 +28,11 @@ unfolding filledTo
 filled-none bytes window = refl
 
 pub filled-more : (i : ℕ) (bytes : List ℕ) (before window : List (Option ℕ)) (w : ℕ) → window ≡ filledTo i bytes before → w ≡ wordAt bytes i
-  → set window (placeAt bytes i) (Some w) ≡ filledTo (i + 1) bytes before
+    → set window (placeAt bytes i) (Some w) ≡ filledTo (i + 1) bytes before
 unfolding filledTo
 filled-more i bytes before window w e f =
     ap (λ (l : List (Option ℕ)). set l (placeAt bytes i) (Some w)) e ∙ ap (λ (x : ℕ). set (filledTo i bytes before) (placeAt bytes i) (Some x)) f
-      ∙ ap (λ (n : ℕ). filledTo n bytes before) (sym (add-one i))
+    ∙ ap (λ (n : ℕ). filledTo n bytes before) (sym (add-one i))
 
 length-filled : (k : ℕ) (bytes : List ℕ) (window : List (Option ℕ)) → length (filledTo k bytes window) ≡ length window
 unfolding filledTo
@@ -48,6 +48,7 @@ rising-good bytes good = go (notRising (λ p. p) (places bytes)) (cond-both (bad
   where
     clash : _≡_ {A = Result (Unit {0}) SheetFault} (Err Length) (Ok tt) → ⊥
     clash e = let z : _≡_ {A = ℕ} 0 1 = cc in omega arith
+
     go : (o : Option ℕ) → ifRising o ≡ Ok tt → o ≡ None
     go None e = refl
     go (Some i) e = absurd (let z : _≡_ {A = ℕ} 0 1 = cc in omega arith)
@@ -69,19 +70,19 @@ kept-to (suc k) bytes window p other =
     getD-set-other (filledTo k bytes window) (placeAt bytes k) p _ None apart ∙ kept-to k bytes window p (λ i h. other i (omega arith))
 
 told-to : (k : ℕ) (bytes : List ℕ) (window : List (Option ℕ)) → ((i : ℕ) → i < k → placeAt bytes i < length window)
-  → ((i j : ℕ) → i < j → j < k → placeAt bytes i < placeAt bytes j)
-  → (i : ℕ) → i < k → getD (filledTo k bytes window) (placeAt bytes i) None ≡ Some (wordAt bytes i)
+    → ((i j : ℕ) → i < j → j < k → placeAt bytes i < placeAt bytes j)
+    → (i : ℕ) → i < k → getD (filledTo k bytes window) (placeAt bytes i) None ≡ Some (wordAt bytes i)
 unfolding filledTo
 told-to zero bytes window within rise i h = absurd (omega arith)
 told-to (suc k) bytes window within rise i h =
     ⊎-elim
-      (λ last. ap (λ (n : ℕ). getD (filledTo (suc k) bytes window) (placeAt bytes n) None) last
-        ∙ getD-set-same (filledTo k bytes window) (placeAt bytes k) _ None (omega (arith, within k (omega arith), length-filled k bytes window)) ∙ ap (λ (n : ℕ). Some (wordAt bytes n)) (sym last))
-      (λ early.
-        let apart : placeAt bytes i ≢ placeAt bytes k = λ e. absurd (omega (arith, rise i k early (omega arith))) in
-        getD-set-other (filledTo k bytes window) (placeAt bytes k) (placeAt bytes i) _ None apart
-          ∙ told-to k bytes window (λ j below. within j (omega arith)) (λ j m less below. rise j m less (omega arith)) i early)
-      (eq-or-lt-of-le (le-of-suc-le-suc h))
+    (λ last. ap (λ (n : ℕ). getD (filledTo (suc k) bytes window) (placeAt bytes n) None) last
+    ∙ getD-set-same (filledTo k bytes window) (placeAt bytes k) _ None (omega (arith, within k (omega arith), length-filled k bytes window)) ∙ ap (λ (n : ℕ). Some (wordAt bytes n)) (sym last))
+    (λ early.
+    let apart : placeAt bytes i ≢ placeAt bytes k = λ e. absurd (omega (arith, rise i k early (omega arith))) in
+    getD-set-other (filledTo k bytes window) (placeAt bytes k) (placeAt bytes i) _ None apart
+    ∙ told-to k bytes window (λ j below. within j (omega arith)) (λ j m less below. rise j m less (omega arith)) i early)
+    (eq-or-lt-of-le (le-of-suc-le-suc h))
 
 pub fills : (bytes : List ℕ) (window : List (Option ℕ)) → sheetCheck bytes ≡ Ok tt → ((i : ℕ) → placeAt bytes i < length window) → Fills bytes window (filled bytes window)
 fills bytes window good within =

@@ -31,7 +31,7 @@ wordStart bytes i = 2 + count bytes + 4 * i
 abbrev pub wordAt : List ℕ → ℕ → ℕ
 wordAt bytes i =
     byte bytes (wordStart bytes i) + 256 * byte bytes (wordStart bytes i + 1) + 65536 * byte bytes (wordStart bytes i + 2)
-  + 16777216 * byte bytes (wordStart bytes i + 3)
+    + 16777216 * byte bytes (wordStart bytes i + 3)
 
 -- the bytes of the places
 abbrev pub places : List ℕ → List ℕ

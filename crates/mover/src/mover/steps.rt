@@ -12,11 +12,11 @@ use crate::records::started_record;
 use crate::records::store;
 use crate::status::status_word;
 use machine::fault::ChannelFault;
-use memory::interface::HallMemory;
-use numbers::channel::Channel;
 use machine::fault::ProgramIntoChannel;
 use machine::fault::SheetIntoChannel;
 use machine::record::Stored;
+use memory::interface::HallMemory;
+use numbers::channel::Channel;
 use program::kind::Program;
 use program::layout::Words;
 use sheet::layout;
@@ -47,7 +47,12 @@ impl<M: HallMemory> Mover<M> {
     }
 
     // Writes one place.
-    pub(super) fn put_step(&mut self, channel: u32, place: u32, word: u32) -> Result<(), ChannelFault>
+    pub(super) fn put_step(
+        &mut self,
+        channel: u32,
+        place: u32,
+        word: u32,
+    ) -> Result<(), ChannelFault>
         requires { ⌜ MoverSound M·HallMemory (now self) ⌝ }
         ensures sound { λ _. ⌜ MoverSound M·HallMemory (now (self .exit)) ⌝ }
         ensures answer { λ r. ⌜ r ≡ answered (putRefused (mean (now (self .entry))) channel place) tt ⌝ }
@@ -57,7 +62,9 @@ impl<M: HallMemory> Mover<M> {
         let channel = known_channel(channel)?;
         let place = known_place(place)?;
         resting(&self.state.records[channel.0 as usize])?;
-        self.state.records[channel.0 as usize].window[place.0 as usize] = Some(word);
+        self.state
+            .records[channel.0 as usize]
+            .window[place.0 as usize] = Some(word);
         Ok(())
     }
 

@@ -40,7 +40,11 @@ impl<M: HallMemory> Mover<M> {
         ensures state { λ _. ⌜ mean (now (self .exit)) ≡ landPiece (mean (now (self .entry))) piece (rest (mean (now (self .entry)) .flight)) reply ⌝ }
         ensures memory { λ _. ⌜ now (self .exit) .memory ≡ now (self .entry) .memory ⌝ }
     {
-        land_reply(&mut self.state.records[piece.channel.0 as usize], piece, reply);
+        land_reply(
+            &mut self.state.records[piece.channel.0 as usize],
+            piece,
+            reply,
+        );
         if piece.due == 1 {
             let _ = self.state.flight.pop();
         } else {
@@ -80,7 +84,11 @@ impl<M: HallMemory> Mover<M> {
         if self.state.flight.len() >= 4 {
             return None;
         }
-        choose(self.state.singles.first(), self.state.blocks.first(), self.state.after_single)
+        choose(
+            self.state.singles.first(),
+            self.state.blocks.first(),
+            self.state.after_single,
+        )
     }
 
     // The channel that was served leaves its line; a block whose piece was not final goes to its end.

@@ -15,4 +15,4 @@ returns c =
     let k = c .args .channel .now in
     let ends = range-of _ _ r (sym (c .in-Some .ensures tt)) in
     c .cut .ensures .piece
-      ∙ ap firstPiece (ap (λ (p : Place). fromTo (p .0) (r .last .0)) (ends .0) ∙ ap (λ (p : Place). fromTo (k .program .first + k .counts .sent) (p .0)) (ends .1))
+    ∙ ap firstPiece (ap (λ (p : Place). fromTo (p .0) (r .last .0)) (ends .0) ∙ ap (λ (p : Place). fromTo (k .program .first + k .counts .sent) (p .0)) (ends .1))

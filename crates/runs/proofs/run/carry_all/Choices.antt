@@ -8,4 +8,4 @@ use Rattle.runs.proofs.run.carry_all.Given as given
 abbrev pub Inv-loop-i : given.InvT-loop-i
 Inv-loop-i g l =
     MoverSound (g .M·HallMemory) (l .mover)
-  × GoesOn (l .calls) (l .answers) (l .i) (mean (l .entry .mover)) (hallView (g .M·HallMemory) (l .entry .mover)) (mean (l .mover)) (hallView (g .M·HallMemory) (l .mover))
+    × GoesOn (l .calls) (l .answers) (l .i) (mean (l .entry .mover)) (hallView (g .M·HallMemory) (l .entry .mover)) (mean (l .mover)) (hallView (g .M·HallMemory) (l .mover))

@@ -18,9 +18,9 @@ returns-in-Ok g c =
     let nothing = ap (λ (m : g .M .Denot). hall .view m .transit) same ∙ idle-memory (hall .view (c .args .memory)) (sym (c .in-Ok .ensures tt)) in
     let ran = c .carry-all .ensures .goes-on (hall .view (c .new-mover .result .memory)) nothing (c .new-mover .ensures .opens .run) in
     let long = subst (λ (k : ℕ). Ran (hall .view (c .new-mover .result .memory)) (take (min (length calls) k) calls) (take (min (length calls) k) answers) (mean t) (hallView hall t))
-          (sym (c .carry-all .kept .answers)) ran in
+    (sym (c .carry-all .kept .answers)) ran in
     record {
       sound = c .carry-all .ensures .sound;
       ran = subst (λ (m : g .M .Denot). Ran (hall .view m) (take (min (length calls) (length answers)) calls) (take (min (length calls) (length answers)) answers) (mean t) (hallView hall t))
-        same long;
+          same long;
     }

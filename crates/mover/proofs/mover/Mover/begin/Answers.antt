@@ -22,8 +22,8 @@ returns g c =
     let state : mean (c .join-line .last .self) ≡ startProgram m (c .args .channel .0) (c .args .program) = search needs in
     record {
       sound = kept-by (g .M·HallMemory) (c .args .self .now) (c .join-line .last .self) (startProgram m (c .args .channel .0) (c .args .program)) (c .pre .sound)
-        (search needs) (c .join-line .ensures .sound) state
-        (sound-start m _ (c .args .channel .0) (c .args .program) (c .pre .sound .state) (c .pre .low) (c .pre .rests) (c .pre .ordered) (search needs) (c .pre .one));
+          (search needs) (c .join-line .ensures .sound) state
+          (sound-start m _ (c .args .channel .0) (c .args .program) (c .pre .sound .state) (c .pre .low) (c .pre .rests) (c .pre .ordered) (search needs) (c .pre .one));
       state = state;
       memory = search needs;
     }

@@ -11,7 +11,7 @@ returns g c =
     let m = mean (c .args .self .now) in
     record {
       sound = kept-by (g .M·HallMemory) (c .args .self .now) _ (reserveState m) (c .pre) refl (record { singles = c .pre .lines .singles; blocks = c .pre .lines .blocks; flight = c .pre .lines .flight }) (search needs)
-        (sound-reserve m _ (c .pre .state));
+          (sound-reserve m _ (c .pre .state));
       answer = search needs;
       state = search needs;
       memory = search needs;

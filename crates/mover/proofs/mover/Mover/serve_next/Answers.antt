@@ -45,7 +45,7 @@ returns g c =
     let after = c .note-service .ensures .state ∙ ap (served m) chosen in
     let memory = subst (λ (x : g .M .Denot). hall .sound x) same (c .send-piece .ensures .sound) in
     let size : (c .last .result .0 - c .first .result .0) + 1 ≡ pieceLength (nextPiece r) =
-          (search needs ∙ ap pieceLength is) in
+    (search needs ∙ ap pieceLength is) in
     record {
       sound = served-sound hall s t (c .pre) memory (c .note-service .ensures .lines) sends after;
       serves = record { sends = sends; service-is = ap (Sent ch) size ∙ ap (service m) chosen; after-is = after };

@@ -40,7 +40,7 @@ returns-in-Ok g c =
       sound = c .begin .ensures .sound;
       answer = accepted-answer m n (c .args .words) p (known .0) read clear;
       state = c .begin .ensures .state ∙ ap (startProgram m (ch .0)) said ∙ ap (λ (k : ℕ). startProgram m k (stored p)) (known .1)
-        ∙ accepted-state m n (c .args .words) p (known .0) read clear;
+          ∙ accepted-state m n (c .args .words) p (known .0) read clear;
       memory = c .begin .ensures .memory;
     }
 
