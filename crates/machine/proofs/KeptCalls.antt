@@ -19,11 +19,11 @@ use Rattle.sheet.specs.Sheets.{filledTo, filled, count}
 use Rattle.machine.specs.Calls.{emptyWindow, lowestFree, reserveState, releaseState, putState, fillState, started, joinLine, startProgram, stopState}
 use Rattle.machine.specs.Turns.{hasReplies}
 use Rattle.machine.specs.Means.{Mean, Window, cleared, recordOf, withRecord, withQuiet, absent}
-use Rattle.machine.specs.Soundness.{newMean, times, finals, dues, placesDue, stillDue, Sound}
+use Rattle.machine.specs.Soundness.{Stands, newMean, times, finals, dues, placesDue, stillDue, Sound}
 use Rattle.machine.specs.declared.record.Record.{Record}
 use Rattle.machine.specs.declared.record.Stored.{Stored}
 use Rattle.machine.proofs.KeptCounts.{none-counted, times-append, times-here, times-other, channels-append}
-use Rattle.machine.proofs.KeptChannels.{Stands, stands, same-stands, channel-from, changed, replaced, remarked}
+use Rattle.machine.proofs.KeptChannels.{same-stands, channel-from, changed, replaced, remarked}
 
 -- a clear record, of a channel that stands nowhere
 pub clear-stands : (reserved : Bool) (w : Window) → length w ≡ 256 → Stands (cleared reserved w) 0 0 0 []
@@ -60,7 +60,7 @@ sound-new v none = record {
 
 pub sound-put : (m : Mean) (v : View) (c p w : ℕ) → Sound m v → c < 16 → Sound (putState m c p w) v
 sound-put m v c p w sound low =
-    let h = stands m c (sound .channels c low) in
+    let h = (sound .channels c low) in
     replaced m v c _ sound low (remarked (recordOf m c) _ _ _ _ _ _ (set (recordOf m c .window) p (Some w)) (length-set _ p (Some w) ∙ h .window) h)
 
 length-filled : (k : ℕ) (bytes : List ℕ) (window : Window) → length (filledTo k bytes window) ≡ length window
@@ -70,7 +70,7 @@ length-filled (suc k) bytes window = length-set _ _ _ ∙ length-filled k bytes 
 
 pub sound-fill : (m : Mean) (v : View) (c : ℕ) (bytes : List ℕ) → Sound m v → c < 16 → Sound (fillState m c bytes) v
 sound-fill m v c bytes sound low =
-    let h = stands m c (sound .channels c low) in
+    let h = (sound .channels c low) in
     replaced m v c _ sound low (remarked (recordOf m c) _ _ _ _ _ _ (filled bytes (recordOf m c .window)) (length-filled (count bytes) bytes _ ∙ h .window) h)
 
 -- a channel that does not run stands nowhere, and no reply is due
@@ -83,7 +83,7 @@ idle r s b f ps h rests =
 cleared-idle : (m : Mean) (v : View) (c : ℕ) (reserved : Bool) (w : Window) → Sound m v → c < 16 → recordOf m c .flags .running ≡ false → length w ≡ 256
     → Sound (withRecord m c (cleared reserved w)) v
 cleared-idle m v c reserved w sound low rests long =
-    let at = idle _ _ _ _ _ (stands m c (sound .channels c low)) rests in
+    let at = idle _ _ _ _ _ ((sound .channels c low)) rests in
     replaced m v c (cleared reserved w) sound low
     (same-stands _ (cleared reserved w) _ _ _ 0 0 0 _ [] refl (at .0) (at .1) (at .2) (at .3) (clear-stands reserved w long))
 
@@ -120,13 +120,13 @@ sound-reserve m v sound = go (lowestFree (m .records)) (lowest-free (m .records)
 
 pub sound-stop : (m : Mean) (v : View) (c : ℕ) → Sound m v → c < 16 → Sound (stopState m c) v
 sound-stop m v c sound low =
-    let h = stands m c (sound .channels c low) in
+    let h = (sound .channels c low) in
     replaced m v c _ sound low (remarked (recordOf m c) _ _ _ _ (recordOf m c .flags .error) true (recordOf m c .window) (h .window) h)
 
 pub sound-quiet : (m : Mean) (v : View) (quiet : Bool) → Sound m v → Sound (withQuiet m quiet) v
 sound-quiet m v quiet sound = record {
   wide = sound .wide;
-  channels = λ c low. channel-from (withQuiet m quiet) c _ _ _ _ _ refl refl refl refl refl (stands m c (sound .channels c low));
+  channels = λ c low. channel-from (withQuiet m quiet) c _ _ _ _ _ refl refl refl refl refl ((sound .channels c low));
   singles-fit = sound .singles-fit;
   blocks-fit = sound .blocks-fit;
   pieces-fit = sound .pieces-fit;
@@ -162,7 +162,7 @@ sound-start m v c p sound low rests ordered within one-place =
     (λ block. subst (λ (b : Bool). Sound (joinLine b c (withRecord m c (started p (recordOf m c .window)))) v) (sym block) (to-blocks block)) (cases-bool (p .single))
   where
     at : (times c (m .singles) ≡ 0) × (times c (m .blocks) ≡ 0) × (finals c (m .flight) ≡ 0) × (placesDue c (dues (m .flight)) ≡ [])
-    at = idle _ _ _ _ _ (stands m c (sound .channels c low)) rests
+    at = idle _ _ _ _ _ ((sound .channels c low)) rests
 
     once : (l : List Channel) → times c l ≡ 0 → times c (l ++ record { 0 = c } ∷ []) ≡ 1
     once l none = omega (arith, times-append c l (record { 0 = c } ∷ []), times-here c (record { 0 = c }) refl)

@@ -13,57 +13,8 @@ use Rattle.std.proofs.shelf.Tests.{cases-eq}
 use Rattle.memory.specs.Views.{View}
 use Rattle.program.specs.Pieces.{countUp}
 use Rattle.machine.specs.Means.{Mean, Window, recordOf, withRecord, absent}
-use Rattle.machine.specs.Soundness.{times, finals, dues, placesDue, stillDue, FinalLast, ChannelsFit, PiecesFit, ChannelSound, Sound}
+use Rattle.machine.specs.Soundness.{times, finals, dues, placesDue, stillDue, FinalLast, ChannelsFit, PiecesFit, Stands, ChannelSound, Sound}
 use Rattle.machine.specs.declared.record.Record.{Record}
-
-pub record Stands (r : Record) (s b f : ℕ) (places : List ℕ) : Type 0 where
-  pub window : length (r .window) ≡ 256
-  pub placed : s + b + f ≡ boolByte (r .flags .running)
-  pub single-line : 0 < s → r .program .single ≡ true
-  pub block-line : 0 < b → r .program .single ≡ false
-  pub held : r .flags .running ≡ true → r .flags .reserved ≡ true
-  pub ordered : r .program .first ≤ r .program .last
-  pub within : r .program .last < 256
-  pub one-place : r .program .single ≡ true → r .program .first ≡ r .program .last
-  pub landed-sent : r .counts .landed ≤ r .counts .sent
-  pub sent-all : r .counts .sent ≤ r .program .last + 1 - r .program .first
-  pub unsent : 0 < s + b → r .counts .sent ≤ r .program .last - r .program .first
-  pub due : places ≡ countUp (stillDue r) (r .program .first + r .counts .landed)
-
-abbrev pub StandsIn : Mean → ℕ → Type 0
-StandsIn m c = Stands (recordOf m c) (times c (m .singles)) (times c (m .blocks)) (finals c (m .flight)) (placesDue c (dues (m .flight)))
-
-pub stands : (m : Mean) (c : ℕ) → ChannelSound m c → StandsIn m c
-stands m c h = record {
-  window = h .window;
-  placed = h .placed;
-  single-line = h .single-line;
-  block-line = h .block-line;
-  held = h .held;
-  ordered = h .ordered;
-  within = h .within;
-  one-place = h .one-place;
-  landed-sent = h .landed-sent;
-  sent-all = h .sent-all;
-  unsent = h .unsent;
-  due = h .due;
-}
-
-channel-sound : (m : Mean) (c : ℕ) → StandsIn m c → ChannelSound m c
-channel-sound m c h = record {
-  window = h .window;
-  placed = h .placed;
-  single-line = h .single-line;
-  block-line = h .block-line;
-  held = h .held;
-  ordered = h .ordered;
-  within = h .within;
-  one-place = h .one-place;
-  landed-sent = h .landed-sent;
-  sent-all = h .sent-all;
-  unsent = h .unsent;
-  due = h .due;
-}
 
 pub same-stands : (q r : Record) (t c g s b f : ℕ) (qs ps : List ℕ) → q ≡ r → t ≡ s → c ≡ b → g ≡ f → qs ≡ ps → Stands r s b f ps → Stands q t c g qs
 same-stands q r t c g s b f qs ps er es eb ef ep h =
@@ -74,7 +25,7 @@ same-stands q r t c g s b f qs ps er es eb ef ep h =
 
 pub channel-from : (m : Mean) (c : ℕ) (r : Record) (s b f : ℕ) (ps : List ℕ) → recordOf m c ≡ r → times c (m .singles) ≡ s → times c (m .blocks) ≡ b
     → finals c (m .flight) ≡ f → placesDue c (dues (m .flight)) ≡ ps → Stands r s b f ps → ChannelSound m c
-channel-from m c r s b f ps er es eb ef ep h = channel-sound m c (same-stands _ r _ _ _ s b f _ ps er es eb ef ep h)
+channel-from m c r s b f ps er es eb ef ep h = same-stands _ r _ _ _ s b f _ ps er es eb ef ep h
 
 -- where a channel stands is the same in both
 pub record Alike (m n : Mean) (d : ℕ) : Type 0 where
@@ -104,7 +55,7 @@ changed m n v w c r s b f ps sound low er es eb ef ep h others whole = record {
       (channel-from n c r s b f ps (ap (λ (l : List Record). getD l c absent) er ∙ getD-set-same (m .records) c r absent (omega (arith, sound .wide))) es eb ef ep h))
       (λ apart. let k = others d apart in
       channel-from n d (recordOf m d) _ _ _ _ (ap (λ (l : List Record). getD l d absent) er ∙ getD-set-other (m .records) c d r absent apart)
-      (k .singles) (k .blocks) (k .finals) (k .places) (stands m d (sound .channels d near)))
+      (k .singles) (k .blocks) (k .finals) (k .places) ((sound .channels d near)))
       (cases-eq d c);
   singles-fit = whole .singles-fit;
   blocks-fit = whole .blocks-fit;

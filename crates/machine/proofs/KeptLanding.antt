@@ -15,12 +15,12 @@ use Rattle.std.specs.declared.option.Option.{Option}
 use Rattle.memory.specs.Views.{View}
 use Rattle.program.specs.Pieces.{countUp}
 use Rattle.machine.specs.Means.{Mean, recordOf}
-use Rattle.machine.specs.Soundness.{times, finals, Due, dueFrom, dues, placesDue, stillDue, FinalLast, PiecesFit, Sound}
+use Rattle.machine.specs.Soundness.{Stands, times, finals, Due, dueFrom, dues, placesDue, stillDue, FinalLast, PiecesFit, Sound}
 use Rattle.machine.specs.Turns.{landedRecord, flightAfter, landPiece, hasReplies}
 use Rattle.machine.specs.declared.piece.Piece.{Piece}
 use Rattle.machine.specs.declared.record.Record.{Record}
 use Rattle.machine.proofs.KeptCounts.{none-counted}
-use Rattle.machine.proofs.KeptChannels.{Stands, stands, same-stands, changed}
+use Rattle.machine.proofs.KeptChannels.{same-stands, changed}
 
 -- the piece's last reply lands, and it was the final piece
 abbrev pub ends : Piece → Bool
@@ -154,7 +154,7 @@ lands-at m v p ps sound same =
     let fit : PiecesFit (p ∷ ps) = subst PiecesFit same (sound .pieces-fit) in
     let low : p .channel .0 < 16 = fit .0 in
     let e : p .due ≡ suc (p .due - 1) = due-some p ps fit in
-    let before = stands m (p .channel .0) (sound .channels (p .channel .0) low) in
+    let before = (sound .channels (p .channel .0) low) in
     let places : placesDue (p .channel .0) (dues (m .flight)) ≡ p .next .0 ∷ placesDue (p .channel .0) (later p ps (p .due - 1)) =
     ap (λ (l : List Piece). placesDue (p .channel .0) (dues l)) same ∙ places-here p ps (p .due - 1) e in
     let known = same-stands _ _ _ _ _ _ _ _ _ _ refl refl refl (ap (finals (p .channel .0)) (sym same)) (sym places) before in

@@ -26,12 +26,12 @@ use Rattle.operators.specs.declared.mode.Mode.{Mode}
 use Rattle.operators.specs.declared.mode.Mode.the-variants.{Load, Store, Mp, Sync}
 use Rattle.program.specs.Pieces.{countUp}
 use Rattle.machine.specs.Means.{Mean, recordOf}
-use Rattle.machine.specs.Soundness.{times, finals, Due, dueFrom, dues, placesDue, stillDue, FinalLast, ChannelsFit, PiecesFit, Sound}
+use Rattle.machine.specs.Soundness.{Stands, times, finals, Due, dueFrom, dues, placesDue, stillDue, FinalLast, ChannelsFit, PiecesFit, Sound}
 use Rattle.machine.specs.Turns.{chosen, serviced, nextPiece, pieceLength, final, requestAt, requestsFrom, requests, hasReplies, servedRecord, rest, serve, SentAll}
 use Rattle.machine.specs.declared.piece.Piece.{Piece}
 use Rattle.machine.specs.declared.record.Record.{Record}
 use Rattle.machine.proofs.KeptCounts.{count-split, times-append, times-here, times-other, finals-append, channels-append, pieces-append, dues-append, places-append, places-own, places-other, length-due, few-due}
-use Rattle.machine.proofs.KeptChannels.{Stands, stands, changed}
+use Rattle.machine.proofs.KeptChannels.{changed}
 
 -- the next piece of a channel that waits has one to eight places, the first of them the first unsent, the last of them within
 pub record NextPiece (r : Record) : Type 0 where
@@ -302,7 +302,7 @@ serve-lines m v w c xs ys sound few low waits ex ey count singles blocks others 
     })
   where
     before : Stands (recordOf m (c .0)) (times (c .0) (m .singles)) (times (c .0) (m .blocks)) (finals (c .0) (m .flight)) (placesDue (c .0) (dues (m .flight)))
-    before = stands m (c .0) (sound .channels (c .0) low)
+    before = (sound .channels (c .0) low)
 
     piece : NextPiece (recordOf m (c .0))
     piece = piece-nonempty (recordOf m (c .0)) _ _ _ _ before waits
@@ -350,7 +350,7 @@ serve-single m v w c sound few e sent =
     let some : 0 < times (c .0) (m .singles) = omega (arith, head) in
     let waits : 0 < times (c .0) (m .singles) + times (c .0) (m .blocks) = omega (arith, some) in
     let single = sound .channels (c .0) low .single-line some in
-    let fin : boolByte (final (recordOf m (c .0))) ≡ 1 = ap boolByte (single-final _ _ _ _ _ (stands m (c .0) (sound .channels (c .0) low)) waits single) in
+    let fin : boolByte (final (recordOf m (c .0))) ≡ 1 = ap boolByte (single-final _ _ _ _ _ ((sound .channels (c .0) low)) waits single) in
     serve-lines m v w c (rest (m .singles)) (m .blocks) sound few low waits (cond-true _ _ _ single) (cond-true _ _ _ single)
     (omega (arith, head, fin)) (λ _. some) (λ h. h) (λ d apart. (times-beside d c (m .singles) e apart, refl)) (fit .1) (sound .blocks-fit) sent
 
@@ -392,11 +392,11 @@ serves m v c sound picked =
   where
     known : c .0 < 16 → length (m .flight) < 4 → 0 < times (c .0) (m .singles) + times (c .0) (m .blocks) → Serves m c
     known low few waits =
-        let before = stands m (c .0) (sound .channels (c .0) low) in
+        let before = (sound .channels (c .0) low) in
         record { low = low; room = few; waits = waits; runs = waits-runs _ _ _ _ _ before waits .0; piece = piece-nonempty _ _ _ _ _ before waits }
 
 pub waiting-piece : (m : Mean) (v : View) (c : ℕ) → Sound m v → c < 16 → 0 < times c (m .singles) + times c (m .blocks) → NextPiece (recordOf m c)
-waiting-piece m v c sound low waits = piece-nonempty _ _ _ _ _ (stands m c (sound .channels c low)) waits
+waiting-piece m v c sound low waits = piece-nonempty _ _ _ _ _ ((sound .channels c low)) waits
 
 -- after j requests of a piece the next is not refused
 pub next-sent : (m : Mean) (v u : View) (r : Record) (j p : ℕ) (q : Request) → Sound m v → length (m .flight) < 4 → j < 8 → SentAll (requestsFrom r j p) v u → refuses q u ≡ false

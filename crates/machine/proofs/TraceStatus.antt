@@ -65,25 +65,25 @@ lowBits-small m c wide =
     few f n h e = omega arith
 
 -- the counts are at most 256
-sent-small : {m : Mean} {c : ℕ} → ChannelSound m c → recordOf m c .counts .sent ≤ 256
-sent-small {m} {c} s = go (recordOf m c .counts .sent) (recordOf m c .program .first) (recordOf m c .program .last) (s .sent-all) (s .within)
+sent-small : (m : Mean) (c : ℕ) → ChannelSound m c → recordOf m c .counts .sent ≤ 256
+sent-small m c s = go (recordOf m c .counts .sent) (recordOf m c .program .first) (recordOf m c .program .last) (s .sent-all) (s .within)
   where
     go : (n first last : ℕ) → n ≤ last + 1 - first → last < 256 → n ≤ 256
     go n first last h k = omega arith
 
-landed-small : {m : Mean} {c : ℕ} → ChannelSound m c → recordOf m c .counts .landed ≤ 256
-landed-small {m} {c} s = go (recordOf m c .counts .landed) (recordOf m c .counts .sent) (s .landed-sent) (sent-small s)
+landed-small : (m : Mean) (c : ℕ) → ChannelSound m c → recordOf m c .counts .landed ≤ 256
+landed-small m c s = go (recordOf m c .counts .landed) (recordOf m c .counts .sent) (s .landed-sent) (sent-small m c s)
   where
     go : (l n : ℕ) → l ≤ n → n ≤ 256 → l ≤ 256
     go l n h k = omega arith
 
 pub sent-told : {m : Mean} {v : View} (c : ℕ) → c < 16 → Sound m v → sentTold (seen m v) c ≡ recordOf m c .counts .sent
 sent-told {m} {v} c small sound =
-    high (lowBits m c) (recordOf m c .counts .landed) (recordOf m c .counts .sent) (lowBits-small m c (sound .wide)) (landed-small (sound .channels c small)) (sent-small (sound .channels c small))
+    high (lowBits m c) (recordOf m c .counts .landed) (recordOf m c .counts .sent) (lowBits-small m c (sound .wide)) (landed-small m c (sound .channels c small)) (sent-small m c (sound .channels c small))
 
 pub landed-told : {m : Mean} {v : View} (c : ℕ) → c < 16 → Sound m v → landedTold (seen m v) c ≡ recordOf m c .counts .landed
 landed-told {m} {v} c small sound =
-    middle (lowBits m c) (recordOf m c .counts .landed) (recordOf m c .counts .sent) (lowBits-small m c (sound .wide)) (landed-small (sound .channels c small)) (sent-small (sound .channels c small))
+    middle (lowBits m c) (recordOf m c .counts .landed) (recordOf m c .counts .sent) (lowBits-small m c (sound .wide)) (landed-small m c (sound .channels c small)) (sent-small m c (sound .channels c small))
 
 bit-is : (b : Bool) → b ≡ true → eqb (boolByte b) 1 ≡ true
 bit-is true e = refl

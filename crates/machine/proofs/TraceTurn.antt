@@ -153,8 +153,8 @@ chosen-stands d (s ∷ ss) [] after e sf bf = let f = front d s ss e sf in (more
 chosen-stands d (s ∷ ss) (b ∷ bs) true e sf bf = let f = front d b bs e bf in (more-right (times (d .0) (s ∷ ss)) (times (d .0) (b ∷ bs)) (f .0), f .1)
 chosen-stands d (s ∷ ss) (b ∷ bs) false e sf bf = let f = front d s ss e sf in (more-left (times (d .0) (s ∷ ss)) (times (d .0) (b ∷ bs)) (f .0), f .1)
 
-stands-run : {m : Mean} {d : ℕ} → ChannelSound m d → 0 < times d (m .singles) + times d (m .blocks) → recordOf m d .flags .running ≡ true
-stands-run {m} {d} sound some = go (recordOf m d .flags .running) (times d (m .singles) + times d (m .blocks)) (finals d (m .flight)) some (sound .placed)
+stands-run : (m : Mean) (d : ℕ) → ChannelSound m d → 0 < times d (m .singles) + times d (m .blocks) → recordOf m d .flags .running ≡ true
+stands-run m d sound some = go (recordOf m d .flags .running) (times d (m .singles) + times d (m .blocks)) (finals d (m .flight)) some (sound .placed)
   where
     go : (t : Bool) (a k : ℕ) → 0 < a → a + k ≡ boolByte t → t ≡ true
     go true a k h e = refl
@@ -220,7 +220,7 @@ serves-after c b m n v d sound free left e =
     let program = left .program (d .0) inside in
     record {
       fits = fits-like (recordOf n (d .0)) (recordOf m (d .0)) program (left .sent (d .0) inside) (record { ordered = fine .ordered; within = fine .within; unsent = fine .unsent stands });
-      free = λ other conflict. free (d .0) (pick .1) other (stands-run fine stands) (subst (Conflict (b .program)) program conflict);
+      free = λ other conflict. free (d .0) (pick .1) other (stands-run m (d .0) fine stands) (subst (Conflict (b .program)) program conflict);
     }
 
 pub alone-turn : {m n : Mean} {v w : View} {t : Turned} (c : ℕ) (b : Begun) → c < 16 → Turns t m n v w → Sound m v → Free c b m

@@ -74,22 +74,27 @@ PiecesFit (p ∷ ps) = (p .channel .0 < 16) × (1 ≤ p .due) × (p .due ≤ 8) 
 abbrev pub stillDue : Record → ℕ
 stillDue r = cond (r .flags .running && hasReplies (r .program .mode)) (r .counts .sent - r .counts .landed) 0
 
-pub record ChannelSound (m : Mean) (c : ℕ) : Type 0 where
-  pub window : length (recordOf m c .window) ≡ 256
+-- what is known of one channel: its record r, how often it stands among the singles (s) and among the blocks (b), how many final
+-- pieces of it are in flight (f), and the places of its replies that are due
+pub record Stands (r : Record) (s b f : ℕ) (places : List ℕ) : Type 0 where
+  pub window : length (r .window) ≡ 256
   -- a running channel stands exactly once in a line, or its final piece is in flight; any other does neither
-  pub placed : times c (m .singles) + times c (m .blocks) + finals c (m .flight) ≡ boolByte (recordOf m c .flags .running)
-  pub single-line : 0 < times c (m .singles) → recordOf m c .program .single ≡ true
-  pub block-line : 0 < times c (m .blocks) → recordOf m c .program .single ≡ false
-  pub held : recordOf m c .flags .running ≡ true → recordOf m c .flags .reserved ≡ true
-  pub ordered : recordOf m c .program .first ≤ recordOf m c .program .last
-  pub within : recordOf m c .program .last < 256
-  pub one-place : recordOf m c .program .single ≡ true → recordOf m c .program .first ≡ recordOf m c .program .last
-  pub landed-sent : recordOf m c .counts .landed ≤ recordOf m c .counts .sent
-  pub sent-all : recordOf m c .counts .sent ≤ recordOf m c .program .last + 1 - recordOf m c .program .first
+  pub placed : s + b + f ≡ boolByte (r .flags .running)
+  pub single-line : 0 < s → r .program .single ≡ true
+  pub block-line : 0 < b → r .program .single ≡ false
+  pub held : r .flags .running ≡ true → r .flags .reserved ≡ true
+  pub ordered : r .program .first ≤ r .program .last
+  pub within : r .program .last < 256
+  pub one-place : r .program .single ≡ true → r .program .first ≡ r .program .last
+  pub landed-sent : r .counts .landed ≤ r .counts .sent
+  pub sent-all : r .counts .sent ≤ r .program .last + 1 - r .program .first
   -- a channel that waits for service has a request unsent
-  pub unsent : 0 < times c (m .singles) + times c (m .blocks) → recordOf m c .counts .sent ≤ recordOf m c .program .last - recordOf m c .program .first
+  pub unsent : 0 < s + b → r .counts .sent ≤ r .program .last - r .program .first
   -- its replies are due in the order of its places, from the landed count to the sent count
-  pub due : placesDue c (dues (m .flight)) ≡ countUp (stillDue (recordOf m c)) (recordOf m c .program .first + recordOf m c .counts .landed)
+  pub due : places ≡ countUp (stillDue r) (r .program .first + r .counts .landed)
+
+abbrev pub ChannelSound : Mean → ℕ → Type 0
+ChannelSound m c = Stands (recordOf m c) (times c (m .singles)) (times c (m .blocks)) (finals c (m .flight)) (placesDue c (dues (m .flight)))
 
 pub record Sound (m : Mean) (v : View) : Type 0 where
   pub wide : length (m .records) ≡ 16
