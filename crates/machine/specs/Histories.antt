@@ -41,7 +41,7 @@ landedTold s c = s .status c / 2 ^ 14 % 2 ^ 9
 abbrev pub sentTold : Seen → ℕ → ℕ
 sentTold s c = s .status c / 2 ^ 23 % 2 ^ 9
 
--- a call that changes something was accepted
+-- a call was accepted: its answer is no refusal
 abbrev pub accepted : Answer → Bool
 accepted (answer.Refused f) = false
 accepted answer.Done = true

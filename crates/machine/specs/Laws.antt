@@ -55,7 +55,7 @@ abbrev pub cellAlone : ℕ → Begun → ℕ → ℕ → Option ℕ
 cellAlone c b sent i =
     cond (ltb i sent) (mapped (wordAfter (sending (b .program .mode) (wordOf c b i))) (b .at .cell (cellAt (b .program) i))) (b .at .cell (cellAt (b .program) i))
 
--- A. Status tells the counts that turn's answers gave. A program that clashes with none, on a window that was left alone,
+-- Every figure is traced: status tells the counts that turn's answers gave. A program that clashes with none, on a window that was left alone,
 -- gives what it gives by itself.
 pub record Traced (opening : Seen) (h : History) : Type 0 where
   pub sent : (c : ℕ) → c < 16 → sentTold (nowSeen opening h) c ≡ sentCount c h
@@ -118,7 +118,7 @@ abbrev pub joinAll : Choice → ℕ → List ℕ → ℕ
 joinAll o opening [] = opening
 joinAll o opening (w ∷ ws) = joinBy o (joinAll o opening ws) w
 
--- B. A fitted cell changed under one operator only holds its opening word joined with every word sent to it, each exactly once.
+-- Sums are whole: a fitted cell changed under one operator only holds its opening word joined with every word sent to it, each exactly once.
 abbrev pub Summed : Seen → History → Type 0
 Summed opening h =
     (a : ℕ) → a < 2 ^ 32 → (o : Choice) → OnlyUnder o a h → nowSeen opening h .cell a ≡ mapped (λ w. joinAll o w (wordsSent a h)) (opening .cell a)
@@ -134,7 +134,7 @@ abbrev pub Ends : Seen → ℕ → History → Type 0
 Ends opening c [] = ⊥
 Ends opening c (e ∷ h) = (runs (nowSeen opening h) c ≡ true) × (runs (e .after) c ≡ false)
 
--- C. No program still runs so many turns after its start. None ends with a reply due. None ends unstopped with a request unsent.
+-- Programs end: no program still runs so many turns after its start; none ends with a reply due; none ends unstopped with a request unsent.
 pub record Bounded (opening : Seen) (h : History) : Type 0 where
   pub soon : (c : ℕ) → c < 16 → runs (nowSeen opening h) c ≡ true → turnsSince c h < turnBound
   pub none-due : (c : ℕ) → c < 16 → (b : Begun) → begun c h ≡ Some b → Ends opening c h → hasReplies (b .program .mode) ≡ true

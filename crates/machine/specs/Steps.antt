@@ -63,7 +63,7 @@ Step (look c p) a m v n w = (a ≡ wordOr (lookAnswer m c p)) × (n ≡ m) × (w
 Step (status c) a m v n w = (a ≡ wordOr (statusAnswer m c)) × (n ≡ m) × (w ≡ v)
 Step turn a m v n w = (t : Turned) × (a ≡ answer.Turned t) × Turns t m n v w
 
--- what can be asked without a change: what look tells of each place, each status word, and each cell of the hall memory
+-- what is seen: what look tells of each place, each status word, and the word of each cell of the hall memory
 pub record Seen : Type 0 where
   pub look : ℕ → ℕ → Result ℕ ChannelFault
   pub status : ℕ → ℕ
