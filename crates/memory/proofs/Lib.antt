@@ -1,3 +1,4 @@
+pub mod Asking
 pub mod Entries
 pub mod Merging
 pub mod RouterSends
@@ -5,3 +6,4 @@ pub mod RouterTakes
 pub mod RouterWaits
 pub mod Routing
 pub mod Spreading
+pub mod Taking

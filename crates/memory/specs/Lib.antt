@@ -2,6 +2,7 @@ pub mod Catalogues
 pub mod Effects
 pub mod Faults
 pub mod Flats
+pub mod Laws
 pub mod Routers
 pub mod Spreaders
 pub mod Views

@@ -5,8 +5,8 @@ use crate::request::Taken;
 use queue::line::Queue;
 ghost use mathlib.Core.Path.{_≡_};
 ghost use mathlib.Core.List.{[]};
-ghost use Rattle.queue.specs.Queues.{items, Sound};
-ghost use Rattle.memory.specs.Flats.{flatView, flatCheck};
+ghost use Rattle.queue.specs.Queues.{Sound};
+ghost use Rattle.memory.specs.Flats.{flatView, flatOf, flatCheck};
 ghost use Rattle.std.specs.Of.Vec.{vec-items};
 ghost use Rattle.std.specs.declared.result.Result.the-variants.{Ok};
 
@@ -32,7 +32,7 @@ impl Flat {
     pub fn new(words: Vec<u32>) -> Flat
         requires { ⌜ flatCheck (vec-items words) ≡ Ok tt ⌝ }
         ensures sound { λ r. ⌜ Sound (r .transit) ⌝ }
-        ensures view { λ r. ⌜ (vec-items (r .words) ≡ vec-items words) × (items (r .transit) ≡ []) ⌝ }
+        ensures view { λ r. ⌜ flatOf r ≡ flatView (vec-items words) [] ⌝ }
     {
         Flat {
             words,
@@ -42,7 +42,7 @@ impl Flat {
 }
 
 pub impl HallMemory for Flat as FlatMemory {
-    ghost view = { λ m. flatView (vec-items (m .words)) (items (m .transit)) };
+    ghost view = { flatOf };
 
     ghost sound = { λ m. Sound (m .transit) };
 

@@ -3,6 +3,7 @@ pub mod catalogue;
 pub mod fault;
 pub mod flat;
 pub mod interface;
+pub mod laws;
 pub mod request;
 pub mod router;
 pub mod spreader;

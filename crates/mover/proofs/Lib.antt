@@ -7,3 +7,4 @@ pub mod Oldest
 pub mod Sending
 pub mod Starting
 pub mod Stepping
+pub mod Telling

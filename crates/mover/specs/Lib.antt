@@ -3,3 +3,4 @@ pub mod Halves
 pub mod Making
 pub mod Meaning
 pub mod Status
+pub mod Told

@@ -4,7 +4,7 @@ use numbers::rising::first_not_rising;
 ghost use Prim.Native.Nat.{_≤_, _<_};
 ghost use lib.ListN.{length};
 ghost use mathlib.Core.Path.{_≡_};
-ghost use Rattle.sheet.specs.Sheets.{sheetCheck, count, wordAt, filled};
+ghost use Rattle.sheet.specs.Sheets.{sheetCheck, count, wordAt, filled, Fills};
 ghost use Rattle.std.specs.declared.result.Result.the-variants.{Ok};
 
 // How many entries the first two bytes say.
@@ -45,7 +45,8 @@ fn word(bytes: &[u8], i: usize) -> u32
 // Puts each word of a sheet into its place of the window. The check was passed before.
 pub fn fill(bytes: &[u8], window: &mut [Option<u32>; 256])
     requires { ⌜ sheetCheck (now bytes) ≡ Ok tt ⌝ }
-    ensures { λ _. ⌜ now (window .exit) ≡ filled (now (bytes .entry)) (now (window .entry)) ⌝ }
+    ensures window { λ _. ⌜ now (window .exit) ≡ filled (now (bytes .entry)) (now (window .entry)) ⌝ }
+    ensures law { λ _. ⌜ Fills (now (bytes .entry)) (now (window .entry)) (now (window .exit)) ⌝ }
 {
     for i in 0..entries(bytes) {
         window[bytes[2 + i] as usize] = Some(word(bytes, i));
