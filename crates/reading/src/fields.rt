@@ -76,6 +76,13 @@ impl<'a> Fields<'a> {
         number(self.next()?)
     }
 
+    // The bytes that are left.
+    pub fn rest(&self) -> &'a [u8]
+        ensures { λ r. ⌜ now r ≡ now (now (self .entry) .rest) ⌝ }
+    {
+        self.rest
+    }
+
     // Whether no field is left.
     pub fn at_end(&mut self) -> bool
         ensures { λ r. ⌜ r ≡ not (isSome (firstField (now (now (self .entry) .rest)))) ⌝ }

@@ -1,0 +1,14 @@
+use crate::either::Either;
+use memory::catalogue::Catalogue;
+use memory::flat::Flat;
+use memory::router::Router;
+use memory::spreader::Spreader;
+
+// A memory with no other below it.
+pub type Base = Either<Flat, Catalogue>;
+
+// One such memory, or two that share the cells by a bit of their numbers.
+pub type Shared = Either<Base, Router<Base, Base>>;
+
+// The cells as they are, or spread apart.
+pub type Pile = Either<Shared, Spreader<Shared>>;
