@@ -1,9 +1,3 @@
 pub mod Asking
 pub mod Entries
-pub mod Merging
-pub mod RouterSends
-pub mod RouterTakes
-pub mod RouterWaits
-pub mod Routing
-pub mod Spreading
 pub mod Taking

@@ -3,6 +3,4 @@ pub mod Effects
 pub mod Faults
 pub mod Flats
 pub mod Laws
-pub mod Routers
-pub mod Spreaders
 pub mod Views

@@ -1,9 +1,7 @@
-// The hall memory: one interface, two memories, and two layers that are memories again.
+// The hall memory: one interface, two memories, and laws of any of them.
 pub mod catalogue;
 pub mod fault;
 pub mod flat;
 pub mod interface;
 pub mod laws;
 pub mod request;
-pub mod router;
-pub mod spreader;

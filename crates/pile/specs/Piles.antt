@@ -8,14 +8,14 @@ use Rattle.queue.specs.Queues.{items, Sound}
 use Rattle.memory.specs.Views.{View}
 use Rattle.memory.specs.Catalogues as catalogues
 use Rattle.memory.specs.Flats.{flatView}
-use Rattle.memory.specs.Routers.{routerView, SoundRouter}
-use Rattle.memory.specs.Spreaders.{spreadView}
+use Rattle.layers.specs.Routers.{routerView, SoundRouter}
+use Rattle.layers.specs.Spreaders.{spreadView}
 use Rattle.memory.specs.declared.catalogue.Catalogue.{Catalogue}
 use Rattle.memory.specs.declared.fault.MemoryFault.{MemoryFault}
 use Rattle.memory.specs.declared.flat.Flat.{Flat}
 use Rattle.memory.specs.declared.interface.HallMemory.{Ghosts}
-use Rattle.memory.specs.declared.router.Router.{Router}
-use Rattle.memory.specs.declared.spreader.Spreader.{Spreader}
+use Rattle.layers.specs.declared.router.Router.{Router}
+use Rattle.layers.specs.declared.spreader.Spreader.{Spreader}
 use Rattle.pile.specs.Eithers.{viewOf, SoundOf}
 use Rattle.pile.specs.declared.either.Either.{Either}
 

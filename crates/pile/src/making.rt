@@ -3,16 +3,16 @@ use crate::either::EitherMemory;
 use crate::piles::Base;
 use crate::piles::Pile;
 use crate::piles::Shared;
+use layers::router::Router;
+use layers::router::RouterMemory;
+use layers::spreader::Spreader;
+use layers::spreader::SpreaderMemory;
 use memory::catalogue::Catalogue;
 use memory::catalogue::CatalogueMemory;
 use memory::catalogue::Entry;
 use memory::fault::MemoryFault;
 use memory::flat::Flat;
 use memory::flat::FlatMemory;
-use memory::router::Router;
-use memory::router::RouterMemory;
-use memory::spreader::Spreader;
-use memory::spreader::SpreaderMemory;
 ghost use Rattle.pile.specs.Piles.{BaseSound, SharedSound, PileSound, Made};
 
 // Each function makes a check and then, where it is passed, the memory.

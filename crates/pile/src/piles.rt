@@ -1,8 +1,8 @@
 use crate::either::Either;
+use layers::router::Router;
+use layers::spreader::Spreader;
 use memory::catalogue::Catalogue;
 use memory::flat::Flat;
-use memory::router::Router;
-use memory::spreader::Spreader;
 
 // A memory with no other below it.
 pub type Base = Either<Flat, Catalogue>;

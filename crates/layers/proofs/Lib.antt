@@ -1,0 +1,6 @@
+pub mod Merging
+pub mod RouterSends
+pub mod RouterTakes
+pub mod RouterWaits
+pub mod Routing
+pub mod Spreading
