@@ -1,4 +1,6 @@
 // The commands of a script, as lines spell them.
+#![tactic(auto)]
+
 pub mod command;
 pub mod memories;
 pub mod movers;

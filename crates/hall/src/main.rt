@@ -1,5 +1,7 @@
 // The program that a person runs: it reads a script from standard input, one command a line, carries each command out on
 // the library, and answers it on standard output. It ends with status 1 where some line was a bad line.
+#![tactic(auto)]
+
 #[cfg(test)]
 mod tests;
 

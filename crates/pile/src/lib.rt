@@ -1,4 +1,6 @@
 // Hall memories that are chosen while a program runs.
+#![tactic(auto)]
+
 pub mod either;
 mod making;
 pub mod piles;

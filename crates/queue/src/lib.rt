@@ -1,3 +1,5 @@
 // Lines of fixed room, first in first out, which never allocate.
+#![tactic(auto)]
+
 mod cursor;
 pub mod line;

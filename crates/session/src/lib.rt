@@ -1,4 +1,6 @@
 // A script as it is carried out: the hall that its lines make, and their answers.
+#![tactic(auto)]
+
 mod hall;
 mod memories;
 mod movers;

@@ -1,4 +1,6 @@
 // Figures and a run that were worked out by hand, as theorems over the definitions that the contracts of the other crates name.
+#![tactic(auto)]
+
 ghost use Rattle.std.specs.Prelude.{◌≡◌};
 ghost use Rattle.worked.specs.Figures.{Figures};
 ghost use Rattle.worked.specs.Story.{Story};
