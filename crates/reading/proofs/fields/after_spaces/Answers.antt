@@ -8,8 +8,8 @@ pub loop-rest-preserved : goal.loop-rest-preserved
 loop-rest-preserved c =
     ap after_spaces (take_rest c.loop-rest.rest.now 1) ∙ spaces_more c.loop-rest.rest.now (omega arith) ∙ c.loop-rest.invariant
 
-pub returns-in-default : goal.returns-in-default
-returns-in-default c = spaces_none c.loop-rest.rest.now (omega (arith, ltb-true)) ∙ c.loop-rest.invariant
+pub returns-in_default : goal.returns-in_default
+returns-in_default c = spaces_none c.loop-rest.rest.now (omega (arith, ltb-true)) ∙ c.loop-rest.invariant
 
-pub returns-in-default·2 : goal.returns-in-default·2
-returns-in-default·2 c = spaces_end c.loop-rest.rest.now (λ e. omega arith) ∙ c.loop-rest.invariant
+pub returns-in_default-2 : goal.returns-in_default-2
+returns-in_default-2 c = spaces_end c.loop-rest.rest.now (λ e. omega arith) ∙ c.loop-rest.invariant

@@ -15,7 +15,7 @@ returns c =
     let before = c.args.window.now in
     let all : c.loop-i.i ≡ count bytes = omega arith in
     let full : c.loop-i.window ≡ filled bytes before = c.loop-i.invariant ∙ ap (λ (n : ℕ). filled_to n bytes before) all in
-    let within : (i : ℕ) → place_at bytes i < length before = λ i. let byte = c.type-inv.bytes (2 + i) in let long = c.told-window in omega arith in
+    let within : (i : ℕ) → place_at bytes i < length before = λ i. let byte = c.type_inv.bytes (2 + i) in let long = c.told-window in omega arith in
     record {
       window = full;
       law = subst (λ (after : List (Option ℕ)). Fills bytes before after) (sym full) (fills bytes before c.requires within);

@@ -12,7 +12,7 @@ returns c =
     let i = c.args.index in
     let entry = c.index-entry.result.now in
     let read : entry ≡ get_or es i absent = get_or_read es i entry c.requires.within c.index-entry.ensures absent in
-    let changed = ap (with_word entry) c.word-after.ensures ∙ ap (λ (e : Entry). with_word e (word_after c.args.action e.word)) read in
+    let changed = ap (with_word entry) c.word_after.ensures ∙ ap (λ (e : Entry). with_word e (word_after c.args.action e.word)) read in
     record {
       sound = record { rising = same_key cell_of es i absent _ (ap cell_of read) ∙ c.requires.sound.rising; transit = c.requires.sound.transit; wait = c.requires.sound.wait };
       entries = ap (set es i) changed;

@@ -4,8 +4,8 @@ use Rattle.std.proofs.lemmas.Bool.Decides.{nat_tests}
 use Rattle.queue.proofs.Steps.{held_at}
 use Rattle.queue.proofs.line.Queue.get.Goals as goal
 
-pub returns-in-err-slot : goal.returns-in-err-slot
-returns-in-err-slot g c = grind (arith, nat_tests, slice_get_past)
+pub returns-in_err-slot : goal.returns-in_err-slot
+returns-in_err-slot g c = grind (arith, nat_tests, slice_get_past)
 
 pub returns : goal.returns
 returns g c =

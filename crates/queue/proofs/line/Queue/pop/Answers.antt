@@ -11,5 +11,5 @@ returns g c =
     let holds = held_shorter c.args.self.now.cursor c.args.self.now.slots g.row.N c.requires c.index-self-first.result in
     grind (arith, nat_tests)
 
-pub returns-in-err-first : goal.returns-in-err-first
-returns-in-err-first g c = grind (arith, nat_tests, slice_get_past, drop_all)
+pub returns-in_err-first : goal.returns-in_err-first
+returns-in_err-first g c = grind (arith, nat_tests, slice_get_past, drop_all)

@@ -4,8 +4,8 @@ use Rattle.std.proofs.lemmas.Bool.Decides.{nat_tests}
 use Rattle.queue.proofs.Steps.{set_sound, held_set}
 use Rattle.queue.proofs.line.Queue.replace_first.Goals as goal
 
-pub returns-in-default : goal.returns-in-default
-returns-in-default g c = grind (arith, nat_tests, set_past)
+pub returns-in_default : goal.returns-in_default
+returns-in_default g c = grind (arith, nat_tests, set_past)
 
 pub returns : goal.returns
 returns g c =
