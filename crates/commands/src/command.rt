@@ -22,7 +22,7 @@ impl Command {
     pub fn read(heap: Global, line: &[u8]) -> Result<Command, Trouble> {
         let mut fields = Fields::new(line);
         let name = fields.next().ok_or(Trouble::BadLine)?;
-        if name == b"memory" {
+        if name == b"memory".as_slice() {
             return Ok(Command::MakeMemory(read_pile(heap, fields.rest())?));
         }
         let command = match name {

@@ -35,7 +35,7 @@ fn hexadecimal(byte: u8) -> Option<u8> {
 // The bytes that a field spells, two digits each.
 fn read_bytes(heap: Global, field: &[u8]) -> Result<Vec<u8>, Trouble> {
     let mut bytes = Vec::new(heap);
-    if field == b"-" {
+    if field == b"-".as_slice() {
         return Ok(bytes);
     }
     for pair in field.chunks(2) {
@@ -87,7 +87,7 @@ fn read_fill(heap: Global, fields: &mut Fields) -> Result<MoverCommand, Trouble>
 impl MoverCommand {
     // The call of this name, with its arguments from the fields.
     pub fn read(heap: Global, name: &[u8], fields: &mut Fields) -> Result<MoverCommand, Trouble> {
-        if name == b"fill" {
+        if name == b"fill".as_slice() {
             return read_fill(heap, fields);
         }
         read_call(name, fields).ok_or(Trouble::BadLine)

@@ -8,7 +8,7 @@ use Rattle.mover.proofs.pieces.send_piece.Goals as goal
 
 pub unreachable-requires : goal.unreachable-requires
 unreachable-requires g c =
-    room_left c.args.channel.now c.request-at.result c.first-first.result.0 c.loop-place.place (piece_length (span c.args.piece))
+    room_left c.args.channel.now c.request_at.result c.first-first.result.0 c.loop-place.place (piece_length (span c.args.piece))
     (g.M.HallMemory.view c.args.memory.now) (g.M.HallMemory.view c.loop-place.memory) c.in-Err.field-0
     (search rules) (search rules) c.requires.room c.loop-place.invariant.1 (g.M.HallMemory.view c.send.new.self) c.in-Err.ensures.sends
 
@@ -18,5 +18,5 @@ loop-place-preserved g c =
     let between = g.M.HallMemory.view c.loop-place.memory in (
       c.in-Ok.ensures.sound,
       sent_more c.args.channel.now c.first-first.result.0 c.loop-place.place (g.M.HallMemory.view c.args.memory.now) between after
-          (search rules) c.loop-place.invariant.1 (subst (λ (q : Request). Sends q (Ok tt) between after) c.request-at.ensures c.in-Ok.ensures.sends),
+          (search rules) c.loop-place.invariant.1 (subst (λ (q : Request). Sends q (Ok tt) between after) c.request_at.ensures c.in-Ok.ensures.sends),
     )

@@ -16,8 +16,8 @@ unreachable-requires g c =
     let head = first_is m.flight c.in-Some.piece c.in-Some.ensures in
     omega (arith, always_taken m _ c.in-Some.piece (rest m.flight) c.requires.state head, ap length c.in-Nothing.ensures.takes.transit.0)
 
-pub land-oldest-requires : goal.land-oldest-requires
-land-oldest-requires g c =
+pub land_oldest-requires : goal.land_oldest-requires
+land_oldest-requires g c =
     let m = mean c.args.self.now in
     let head = first_is m.flight c.in-Some.piece c.in-Some.ensures in
     let p = oldest m _ c.in-Some.piece (rest m.flight) c.requires.state head in
@@ -36,14 +36,14 @@ pub returns-in-Reply : goal.returns-in-Reply
 returns-in-Reply g c =
     let hall = g.M.HallMemory in
     let s = c.args.self.now in
-    let t = c.land-oldest.new.self in
+    let t = c.land_oldest.new.self in
     let p = c.in-Some.piece in
     let head = first_is (mean s).flight p c.in-Some.ensures in
-    let same : c.take.new.self ≡ t.memory = sym c.land-oldest.ensures.memory in
+    let same : c.take.new.self ≡ t.memory = sym c.land_oldest.ensures.memory in
     let memory = subst (λ (m : g.row.M.Denot). hall.sound m) same c.in-Reply.ensures.sound in
     let takes = subst (λ (m : g.row.M.Denot). Takes (Reply c.in-Reply.reply) (hall.view s.memory) (hall.view m)) same c.in-Reply.ensures.takes in
-    let found = landed_lands hall s t c.requires memory c.land-oldest.ensures.lines p c.in-Reply.reply head takes c.land-oldest.ensures.state in
+    let found = landed_lands hall s t c.requires memory c.land_oldest.ensures.lines p c.in-Reply.reply head takes c.land_oldest.ensures.state in
     record {
-      sound = landed_sound hall s t c.requires memory c.land-oldest.ensures.lines p c.in-Reply.reply head takes c.land-oldest.ensures.state;
-      lands = subst (λ (b : Bool). Lands (lands.Reply p.channel p.next b) (mean s) (mean t) (hall.view s.memory) (hall.view t.memory)) (sym c.is-some.ensures) found;
+      sound = landed_sound hall s t c.requires memory c.land_oldest.ensures.lines p c.in-Reply.reply head takes c.land_oldest.ensures.state;
+      lands = subst (λ (b : Bool). Lands (lands.Reply p.channel p.next b) (mean s) (mean t) (hall.view s.memory) (hall.view t.memory)) (sym c.is_some.ensures) found;
     }

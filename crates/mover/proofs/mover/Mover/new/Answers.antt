@@ -9,7 +9,7 @@ use Rattle.mover.proofs.mover.Mover.new.Goals as goal
 pub returns : goal.returns
 returns g c =
     let view = g.M.HallMemory.view c.args.memory in
-    let state = new_mean_is c.empty-record-records.result _ _ _ c.empty-record-records.ensures c.new.ensures.holds c.new-2.ensures.holds c.new-3.ensures.holds in
+    let state = new_mean_is c.empty_record-records.result _ _ _ c.empty_record-records.ensures c.new.ensures.holds c.new-2.ensures.holds c.new-3.ensures.holds in
     record {
       sound = record {
         memory = c.requires.sound;

@@ -7,7 +7,7 @@ use Rattle.mover.proofs.mover.Mover.put.Goals as goal
 
 pub returns : goal.returns
 returns g c =
-    let s = c.put-step.ensures in
+    let s = c.put_step.ensures in
     record {
       sound = s.sound;
       keeps = keeps (call.put c.args.channel c.args.place c.args.word) _ _ _ _ _ (done_is _ _ s.answer, s.state, ap g.M.HallMemory.view s.memory);

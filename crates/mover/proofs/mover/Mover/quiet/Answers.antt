@@ -5,5 +5,5 @@ use Rattle.mover.proofs.mover.Mover.quiet.Goals as goal
 
 pub returns : goal.returns
 returns g c =
-    let s = c.quiet-step.ensures in
+    let s = c.quiet_step.ensures in
     record { sound = s.sound; keeps = keeps call.quiet _ _ _ _ _ (refl, s.state, ap g.M.HallMemory.view s.memory) }

@@ -7,7 +7,7 @@ use Rattle.mover.proofs.mover.Mover.release.Goals as goal
 
 pub returns : goal.returns
 returns g c =
-    let s = c.release-step.ensures in
+    let s = c.release_step.ensures in
     record {
       sound = s.sound;
       keeps = keeps (call.release c.args.channel) _ _ _ _ _ (done_is _ _ s.answer, s.state, ap g.M.HallMemory.view s.memory);

@@ -10,11 +10,11 @@ use Rattle.mover.proofs.Halfway.{served_sound}
 use Rattle.mover.proofs.Next.{next}
 use Rattle.mover.proofs.mover.Mover.serve_next.Goals as goal
 
-pub send-piece-requires : goal.send-piece-requires
-send-piece-requires g c =
+pub send_piece-requires : goal.send_piece-requires
+send_piece-requires g c =
     let m = mean c.args.self.now in
     let n = next m _ c.in-Some.channel c.requires.state c.in-Some.ensures in
-    let is = sym c.next-piece-piece.ensures in
+    let is = sym c.next_piece-piece.ensures in
     record {
       sound = c.requires.memory;
       long = n.long;
@@ -26,22 +26,22 @@ pub returns : goal.returns
 returns g c =
     let hall = g.M.HallMemory in
     let s = c.args.self.now in
-    let t = c.note-service.new.self in
+    let t = c.note_service.new.self in
     let m = mean s in
     let ch = c.in-Some.channel in
     let r = record_of m ch.0 in
-    let piece = c.next-piece-piece.result in
-    let is = c.next-piece-piece.ensures in
+    let piece = c.next_piece-piece.result in
+    let is = c.next_piece-piece.ensures in
     let chosen = c.in-Some.ensures in
-    let same : c.send-piece.new.memory ≡ t.memory = sym c.note-service.ensures.memory in
-    let sent = subst (λ (x : Span). SentAll (requests_from r (piece_length x) x.from) (hall.view s.memory) (hall.view c.send-piece.new.memory)) is c.send-piece.ensures.sends in
+    let same : c.send_piece.new.memory ≡ t.memory = sym c.note_service.ensures.memory in
+    let sent = subst (λ (x : Span). SentAll (requests_from r (piece_length x) x.from) (hall.view s.memory) (hall.view c.send_piece.new.memory)) is c.send_piece.ensures.sends in
     let through = subst (λ (x : g.row.M.Denot). SentAll (requests r) (hall.view s.memory) (hall.view x)) same sent in
     let sends = subst (λ (o : Option Channel). SentAll (requested m o) (hall.view s.memory) (hall.view t.memory)) chosen through in
-    let after = c.note-service.ensures.state ∙ ap (served m) chosen in
-    let memory = subst (λ (x : g.row.M.Denot). hall.sound x) same c.send-piece.ensures.sound in
+    let after = c.note_service.ensures.state ∙ ap (served m) chosen in
+    let memory = subst (λ (x : g.row.M.Denot). hall.sound x) same c.send_piece.ensures.sound in
     let size : (c.last.result.0 - c.first.result.0) + 1 ≡ piece_length (next_piece r) =
     (search rules ∙ ap piece_length is) in
     record {
-      sound = served_sound hall s t c.requires memory c.note-service.ensures.lines sends after;
+      sound = served_sound hall s t c.requires memory c.note_service.ensures.lines sends after;
       serves = record { sends = sends; service_is = ap (Sent ch) size ∙ ap (service m) chosen; after_is = after };
     }

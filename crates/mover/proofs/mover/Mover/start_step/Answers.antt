@@ -9,8 +9,8 @@ use Rattle.mover.proofs.mover.Mover.start_step.Goals as goal
 pub begin-requires : goal.begin-requires
 begin-requires g c =
     let m = mean c.args.self.now in
-    let ch = c.in-ok-channel.channel in
-    let known = channel_known c.args.channel ch c.in-ok-channel.ensures in
+    let ch = c.in_ok-channel.channel in
+    let known = channel_known c.args.channel ch c.in_ok-channel.ensures in
     let low : ch.0 < 16 = subst (λ (n : ℕ). n < 16) (sym known.1) known.0 in
     let clear = answered_ok (start_checks m ch.0 c.store-numbers.result) c.in-Ok.ensures in
     record {
@@ -25,13 +25,13 @@ pub returns-in-Ok : goal.returns-in-Ok
 returns-in-Ok g c =
     let m = mean c.args.self.now in
     let n = c.args.channel in
-    let ch = c.in-ok-channel.channel in
-    let p = c.in-ok-program.program in
-    let known = channel_known n ch c.in-ok-channel.ensures in
+    let ch = c.in_ok-channel.channel in
+    let p = c.in_ok-program.program in
+    let known = channel_known n ch c.in_ok-channel.ensures in
     let said = c.store-numbers.ensures.value in
     let checks = ap (λ (k : ℕ). start_checks m k (stored p)) (sym known.1) ∙ ap (start_checks m ch.0) (sym said) in
     let clear = checks ∙ answered_ok (start_checks m ch.0 c.store-numbers.result) c.in-Ok.ensures in
-    let read = c.in-ok-program.ensures.value in
+    let read = c.in_ok-program.ensures.value in
     record {
       sound = c.begin.ensures.sound;
       answer = accepted_answer m n c.args.words p known.0 read clear;
@@ -44,13 +44,13 @@ pub returns-in-Err : goal.returns-in-Err
 returns-in-Err g c =
     let m = mean c.args.self.now in
     let n = c.args.channel in
-    let ch = c.in-ok-channel.channel in
-    let p = c.in-ok-program.program in
-    let known = channel_known n ch c.in-ok-channel.ensures in
+    let ch = c.in_ok-channel.channel in
+    let p = c.in_ok-program.program in
+    let known = channel_known n ch c.in_ok-channel.ensures in
     let said = c.store-numbers.ensures.value in
     let checks = ap (λ (k : ℕ). start_checks m k (stored p)) (sym known.1) ∙ ap (start_checks m ch.0) (sym said) in
     let refused = checks ∙ answered_err (start_checks m ch.0 c.store-numbers.result) c.in-Err.fault c.in-Err.ensures in
-    let read = c.in-ok-program.ensures.value in
+    let read = c.in_ok-program.ensures.value in
     record {
       sound = c.requires;
       answer = refused_answer m n c.args.words p known.0 read c.in-Err.fault refused;

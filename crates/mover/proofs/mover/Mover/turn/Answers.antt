@@ -5,5 +5,5 @@ use Rattle.mover.proofs.mover.Mover.turn.Goals as goal
 
 pub returns : goal.returns
 returns g c =
-    let s = c.turn-step.ensures in
-    record { sound = s.sound; keeps = keeps call.turn _ _ _ _ _ (c.turn-step.result, refl, s.turns) }
+    let s = c.turn_step.ensures in
+    record { sound = s.sound; keeps = keeps call.turn _ _ _ _ _ (c.turn_step.result, refl, s.turns) }
