@@ -75,7 +75,10 @@ fn lines_are_counted(rt: HostRuntime) -> Result<(), Fail> {
     script.take(b"# first\n\njo", &mut out)?;
     script.take(b"in add 1 2\nwrong\n  \nnone", &mut out)?;
     assert!(rt; script.end(&mut out).is_err());
-    assert_eq!(rt; out.as_slice(), b"word 3\nerror line 4\nerror line 6\n");
+    assert_eq!(rt;
+        out.as_slice(),
+        b"word 3\nerror line 4\nerror line 6\n".as_slice()
+    );
     Ok(())
 }
 
@@ -96,6 +99,7 @@ fn what_is_not_there(rt: HostRuntime) -> Result<(), Fail> {
         out.as_slice(),
         b"error line 1\nerror line 2\nmemory ready\nerror line 4\nerror line 5\nwaiting 0\nmover ready\n\
           error line 8\nerror line 9\nerror line 10\nerror line 11\nerror line 12\nerror line 13\nerror line 14\nchannel 0\n"
+            .as_slice()
     );
     Ok(())
 }

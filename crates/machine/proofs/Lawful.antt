@@ -1,10 +1,10 @@
 -- The law of every run, and that every step keeps it.
-use Rattle.std.proofs.Common.{◌≡◌, ℕ, List, [], ◌∷◌, sym, subst}
+use Rattle.std.proofs.Common.{◌≡◌, [], sym, subst}
 use Rattle.memory.specs.Views.{View}
 use Rattle.machine.specs.Laws.{Law, Keeps, Opens}
 use Rattle.machine.specs.Means.{Mean}
-use Rattle.machine.specs.Soundness.{Sound, new_mean}
-use Rattle.machine.specs.Steps.{Call, Step, Event, History, Run, begin, next, seen}
+use Rattle.machine.specs.Soundness.{new_mean}
+use Rattle.machine.specs.Steps.{Call, Step, History, Run, begin, next, seen}
 use Rattle.machine.specs.declared.answer.Answer.{Answer}
 use Rattle.machine.proofs.KeptCalls.{sound_new}
 use Rattle.machine.proofs.KeptSteps.{sound_step}

@@ -16,7 +16,7 @@ use Rattle.machine.specs.Laws.{tells, word_of, word_told}
 use Rattle.machine.specs.Means.{Mean, Window, record_of, with_record, with_quiet, cleared, absent}
 use Rattle.machine.specs.Soundness.{new_mean, Sound}
 use Rattle.machine.specs.Steps.{Call, reserve, release, put, fill, start, stop, quiet, wake, look, status, turn, Step, Seen, seen, Event, History, Run, begin, next, done_unless, word_or, given_or}
-use Rattle.machine.specs.Turns.{landed, landing, serviced, served, service, Turns, word_sent}
+use Rattle.machine.specs.Turns.{landed, serviced, served, Turns, word_sent}
 use Rattle.machine.specs.declared.answer.Answer.TheVariants as answer
 use Rattle.machine.specs.declared.answer.Answer.{Answer}
 use Rattle.machine.specs.declared.answer.Landing.{Landing}

@@ -1,7 +1,5 @@
 -- What is read off a history: only calls, answers, what look and status tell, and the memory's cells. Nothing is read from a record.
-use Rattle.std.specs.Prelude.{◌≡◌, ℕ, zero, suc, ◌+◌, ◌-◌, ◌/◌, ◌%◌, ◌^◌, ◌≤◌, Bool, true, false, cond, ◌&&◌, ◌⊎◌, List, [], ◌∷◌, ◌++◌, Some, None, Ok, Err, Option, Result, ◌==◌, ◌≢◌}
-use Rattle.numbers.specs.declared.channel.Channel.{Channel}
-use Rattle.operators.specs.declared.choice.Choice.{Choice}
+use Rattle.std.specs.Prelude.{◌≡◌, ℕ, ◌+◌, ◌-◌, ◌/◌, ◌%◌, ◌^◌, ◌≤◌, Bool, true, false, cond, ◌&&◌, ◌⊎◌, [], ◌∷◌, Some, None, Ok, Err, Option, ◌==◌, ◌≢◌}
 use Rattle.operators.specs.declared.mode.Mode.{Mode}
 use Rattle.operators.specs.declared.mode.Mode.TheVariants.{Load, Store, Mp, Sync}
 use Rattle.program.specs.Layout.{read_program}
@@ -14,7 +12,6 @@ use Rattle.machine.specs.declared.answer.Landing.{Landing}
 use Rattle.machine.specs.declared.answer.Landing.TheVariants as lands
 use Rattle.machine.specs.declared.answer.Service.{Service}
 use Rattle.machine.specs.declared.answer.Service.TheVariants as serves
-use Rattle.machine.specs.declared.fault.ChannelFault.{ChannelFault}
 use Rattle.machine.specs.declared.record.Stored.{Stored}
 
 -- what is seen after a history

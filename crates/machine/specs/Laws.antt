@@ -1,5 +1,5 @@
 -- The laws over runs: what may be told of every history of the eleven calls from a new mover.
-use Rattle.std.specs.Prelude.{◌≡◌, ℕ, zero, suc, ◌+◌, ◌-◌, ◌*◌, ◌%◌, ◌^◌, ◌<◌, ◌≤◌, Bool, true, false, cond, ◌&&◌, List, [], ◌∷◌, ◌++◌, is_some, Some, None, Ok, Err, Option, Result, ◌==◌, nat_le, nat_lt}
+use Rattle.std.specs.Prelude.{◌≡◌, ℕ, zero, suc, ◌+◌, ◌-◌, ◌*◌, ◌^◌, ◌<◌, ◌≤◌, Bool, true, false, cond, ◌&&◌, List, [], ◌∷◌, ◌++◌, Some, None, Ok, Err, Option, Result, ◌==◌, nat_le, nat_lt}
 use Rattle.std.specs.Option.{option_map}
 use Rattle.memory.specs.Views.{View, longest}
 use Rattle.operators.specs.Choices.{join_by}
@@ -10,7 +10,7 @@ use Rattle.operators.specs.declared.mode.Mode.TheVariants.{Load, Store, Mp, Sync
 use Rattle.machine.specs.Histories.{now_seen, runs, landed_told, sent_told, starts, Starts, Begun, begun, sent_count, landed_count, turns_since, stopped, touched, cell_at, Names, Clashes}
 use Rattle.machine.specs.Means.{Mean}
 use Rattle.machine.specs.Soundness.{new_mean}
-use Rattle.machine.specs.Steps.{Call, Step, Seen, seen, Event, History, Run}
+use Rattle.machine.specs.Steps.{Call, Step, Seen, seen, History, Run}
 use Rattle.machine.specs.Turns.{has_replies}
 use Rattle.machine.specs.declared.answer.Answer.{Answer}
 use Rattle.machine.specs.declared.answer.Answer.TheVariants as answer
@@ -18,7 +18,6 @@ use Rattle.machine.specs.declared.answer.Service.{Service}
 use Rattle.machine.specs.declared.answer.Service.TheVariants as serves
 use Rattle.machine.specs.declared.fault.ChannelFault.{ChannelFault}
 use Rattle.machine.specs.declared.fault.ChannelFault.TheVariants.{Empty}
-use Rattle.machine.specs.declared.record.Stored.{Stored}
 
 -- THE PROGRAM BY ITSELF
 

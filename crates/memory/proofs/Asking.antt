@@ -1,8 +1,8 @@
 -- The laws of one request follow from what a send does.
-use Rattle.std.proofs.Common.{◌≡◌, ℕ, ◌^◌, ◌<◌, Bool, true, false, cond, eqb, is_some, Some, None, Option, Result, refl, ap, ◌∙◌, arith}
+use Rattle.std.proofs.Common.{◌≡◌, ℕ, false, cond, is_some, Some, None, Option, Result, refl, ap, ◌∙◌, arith}
 use Rattle.std.proofs.lemmas.Bool.Decides.{nat_tests}
 use Rattle.std.specs.Option.{option_map}
-use Rattle.operators.specs.Modes.{wants_reply, word_after}
+use Rattle.operators.specs.Modes.{word_after}
 use Rattle.memory.specs.Effects.{Sends, refuses, cell_after}
 use Rattle.memory.specs.Laws.{Asked, fitted}
 use Rattle.memory.specs.Views.{View}

@@ -1,11 +1,10 @@
 -- What the entry found tells, and what a change of it shows.
-use Rattle.std.proofs.Common.{◌≡◌, ℕ, zero, suc, ◌+◌, ◌<◌, ◌≤◌, Bool, true, false, cond, eqb, List, [], ◌∷◌, length, get_or, drop, set, Some, None, Option, sym, refl, ap, ◌∙◌, add-one, arith, drop-cons, eq-eqb, ne_eqb, eqb-true}
+use Rattle.std.proofs.Common.{◌≡◌, ℕ, suc, true, false, eqb, List, [], ◌∷◌, Some, None, Option, refl, ◌∙◌, arith, eqb-true}
 use borrow.Author.Tests.{eqb-false}
-use Rattle.std.proofs.lemmas.List.{drop_all}
 use Rattle.std.proofs.lemmas.Bool.{cond-true, cond-false, cond_both}
 use Rattle.std.proofs.lemmas.Bool.Decides.{nat_tests}
 use Rattle.std.specs.Option.{option_map}
-use Rattle.memory.specs.Catalogues.{cell_of, absent, entry_index, entry_word, with_word, Found}
+use Rattle.memory.specs.Catalogues.{cell_of, entry_index, Found}
 use Rattle.memory.specs.declared.catalogue.Entry.{Entry}
 
 -- the entry found in the rest is found in the whole

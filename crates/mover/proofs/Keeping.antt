@@ -1,13 +1,8 @@
 -- A mover whose memory and lines stayed is sound again once its state is.
-use Rattle.std.proofs.Common.{◌≡◌, ℕ, sym, refl, ap, subst}
-use Rattle.memory.specs.Views.{View}
+use Rattle.std.proofs.Common.{◌≡◌, sym, subst}
 use Rattle.memory.specs.declared.interface.HallMemory.{Ghosts}
-use Rattle.queue.specs.Queues as queue
-use Rattle.numbers.specs.declared.channel.Channel.{Channel}
-use Rattle.queue.specs.declared.line.Queue.{Queue}
-use Rattle.machine.specs.Means.{Mean, mean_of}
+use Rattle.machine.specs.Means.{Mean}
 use Rattle.machine.specs.Soundness.{Sound}
-use Rattle.machine.specs.declared.piece.Piece.{Piece}
 use Rattle.mover.specs.Meaning.{mean, LinesSound, MoverSound}
 use Rattle.mover.specs.declared.mover.Mover.{Mover}
 

@@ -1,12 +1,12 @@
 -- The channel that is served next, and room for its piece.
-use Rattle.std.proofs.Common.{◌≡◌, ℕ, ◌+◌, ◌-◌, ◌*◌, ◌<◌, ◌≤◌, length, Some, sym, ap, subst, arith}
+use Rattle.std.proofs.Common.{◌≡◌, ℕ, ◌+◌, ◌<◌, ◌≤◌, length, Some, sym, arith}
 use Rattle.memory.specs.Views.{View}
 use Rattle.numbers.specs.declared.channel.Channel.{Channel}
 use Rattle.machine.specs.Means.{Mean, record_of}
 use Rattle.machine.specs.Soundness.{Sound, dues}
 use Rattle.machine.specs.Turns.{serviced, next_piece, piece_length}
 use Rattle.machine.proofs.KeptCounts.{few_due}
-use Rattle.machine.proofs.KeptService.{Serves, serves}
+use Rattle.machine.proofs.KeptService.{serves}
 
 pub record Next (m : Mean) (v : View) (c : ℕ) : Type 0 where
   pub low : c < 16

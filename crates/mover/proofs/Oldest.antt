@@ -1,16 +1,16 @@
 -- The oldest piece in flight, and the reply that lands for it.
-use Rattle.std.proofs.Common.{◌≡◌, ℕ, zero, suc, ◌+◌, ◌-◌, ◌<◌, ◌≤◌, Bool, true, false, cond, ◌&&◌, eqb, List, [], ◌∷◌, ◌++◌, length, Some, None, Option, sym, refl, ap, ◌∙◌, subst, arith, length-append}
+use Rattle.std.proofs.Common.{◌≡◌, ℕ, zero, suc, ◌+◌, ◌-◌, ◌<◌, ◌≤◌, List, [], ◌∷◌, ◌++◌, length, Some, None, sym, refl, ap, ◌∙◌, subst, arith, length-append}
 use Rattle.std.proofs.lemmas.Bool.Decides.{nat_tests}
 use Rattle.std.specs.List.{slice_get}
 use Rattle.memory.specs.Views.{View}
 use Rattle.program.specs.Pieces.{count_up}
 use Rattle.machine.specs.Means.{Mean, record_of}
-use Rattle.machine.specs.Soundness.{Sound, Due, dues, due_from, places_due, still_due, PiecesFit}
-use Rattle.machine.specs.Turns.{rest, has_replies}
+use Rattle.machine.specs.Soundness.{Sound, dues, due_from, places_due, still_due, PiecesFit}
+use Rattle.machine.specs.Turns.{rest}
 use Rattle.machine.specs.declared.piece.Piece.{Piece}
 use Rattle.machine.specs.declared.record.Record.{Record}
 use Rattle.machine.proofs.KeptCounts.{places_append, places_own}
-use Rattle.machine.proofs.KeptLanding.{LandsAt, lands_at}
+use Rattle.machine.proofs.KeptLanding.{lands_at}
 
 pub first_is : {X : Type 0} (l : List X) (x : X) → Some x ≡ slice_get l 0 → l ≡ x ∷ rest l
 first_is [] x e = absurd (let z : ◌≡◌ {A = ℕ} 0 1 = cc in omega arith)

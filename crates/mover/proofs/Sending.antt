@@ -1,11 +1,11 @@
 -- The requests of a piece, sent one more at a time.
-use Rattle.std.proofs.Common.{◌≡◌, ℕ, zero, suc, ◌+◌, ◌-◌, ◌<◌, ◌≤◌, Bool, true, false, cond, ◌&&◌, leb, List, [], ◌∷◌, ◌++◌, length, Ok, Err, Result, sym, refl, ap, ◌∙◌, subst, arith}
+use Rattle.std.proofs.Common.{◌≡◌, ℕ, zero, suc, ◌+◌, ◌-◌, ◌<◌, ◌≤◌, List, [], ◌∷◌, ◌++◌, length, Ok, Err, sym, refl, ap, ◌∙◌, subst, arith}
 use Rattle.std.proofs.lemmas.Bool.Decides.{nat_tests}
-use Rattle.memory.specs.Effects.{Sends, refuses}
+use Rattle.memory.specs.Effects.{Sends}
 use Rattle.memory.specs.Views.{View}
 use Rattle.memory.specs.declared.fault.MemoryFault.{MemoryFault}
 use Rattle.memory.specs.declared.request.Request.{Request}
-use Rattle.machine.specs.Turns.{request_at, requests_from, has_replies, SentAll}
+use Rattle.machine.specs.Turns.{request_at, requests_from, SentAll}
 use Rattle.machine.specs.declared.record.Record.{Record}
 use Rattle.machine.proofs.KeptService.{sent_transit}
 

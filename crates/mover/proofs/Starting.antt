@@ -1,12 +1,12 @@
 -- What a start is refused for, once its channel and its program are known.
-use Rattle.std.proofs.Common.{◌≡◌, ℕ, ◌<◌, ◌≤◌, Bool, true, false, cond, leb, Some, None, Ok, Err, Option, Result, sym, refl, ap, ◌∙◌, arith}
+use Rattle.std.proofs.Common.{◌≡◌, ℕ, ◌<◌, false, Some, None, Ok, Err, Result, sym, refl, ap, ◌∙◌, arith}
 use Rattle.std.proofs.lemmas.Bool.Decides.{nat_tests}
 use Rattle.numbers.specs.declared.channel.Channel.{Channel}
 use Rattle.program.specs.Layout.{read_program}
 use Rattle.program.specs.declared.fault.ProgramFault.{ProgramFault}
 use Rattle.program.specs.declared.kind.Program.{Program}
 use Rattle.program.specs.declared.layout.Words.{Words}
-use Rattle.machine.specs.Calls.{Refused, answered, unless_refused, check_channel, check_program, check_reserved, check_resting, empty_refused, stored, start_checks, start_refused, start_program, start_state}
+use Rattle.machine.specs.Calls.{Refused, answered, unless_refused, check_channel, check_program, stored, start_checks, start_refused, start_program, start_state}
 use Rattle.machine.specs.Means.{Mean, record_of}
 use Rattle.machine.specs.declared.fault.ChannelFault.{ChannelFault}
 use Rattle.machine.specs.declared.record.Stored.{Stored}

@@ -1,5 +1,5 @@
 -- The checks that several calls share.
-use Rattle.std.specs.Prelude.{ℕ, cond, Some, None, Ok, Err, Result, nat_le}
+use Rattle.std.specs.Prelude.{ℕ, cond, None, Ok, Err, Result, nat_le}
 use Rattle.numbers.specs.declared.channel.Channel.{Channel}
 use Rattle.numbers.specs.declared.place.Place.{Place}
 use Rattle.machine.specs.Calls.{answered, check_reserved, check_resting, check_running}

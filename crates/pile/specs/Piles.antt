@@ -9,7 +9,6 @@ use Rattle.layers.specs.Spreaders.{spread_view}
 use Rattle.memory.specs.declared.catalogue.Catalogue.{Catalogue}
 use Rattle.memory.specs.declared.fault.MemoryFault.{MemoryFault}
 use Rattle.memory.specs.declared.flat.Flat.{Flat}
-use Rattle.memory.specs.declared.interface.HallMemory.{Ghosts}
 use Rattle.layers.specs.declared.router.Router.{Router}
 use Rattle.layers.specs.declared.spreader.Spreader.{Spreader}
 use Rattle.pile.specs.Eithers.{view_of, SoundOf}

@@ -1,5 +1,5 @@
 -- The law of pieces, by induction on how many pieces follow the first.
-use Rattle.std.proofs.Common.{◌≡◌, ℕ, zero, suc, ◌+◌, ◌-◌, ◌*◌, ◌/◌, ◌%◌, ◌<◌, ◌≤◌, List, [], ◌∷◌, ◌++◌, length, sym, refl, ap, ◌∙◌, inl, inr, append-nil, add-zero, add_assoc, suc-add, zero-add, arith}
+use Rattle.std.proofs.Common.{◌≡◌, ℕ, zero, suc, ◌+◌, ◌-◌, ◌/◌, ◌<◌, ◌≤◌, List, ◌∷◌, ◌++◌, length, sym, refl, ap, ◌∙◌, inl, inr, append-nil, add-zero, suc-add, zero-add, arith}
 use Rattle.program.specs.Pieces.{Span, from_to, boundary, pieces_from, pieces_of, count_up, places_of, all_places, Piece, Each, Covers}
 
 count_split : (m n a : ℕ) → count_up (m + n) a ≡ count_up m a ++ count_up n (a + m)

@@ -1,5 +1,5 @@
 -- How the list of pieces begins, and what the law of pieces rests on.
-use Rattle.std.proofs.Common.{◌≡◌, ℕ, zero, suc, ◌+◌, ◌-◌, ◌*◌, ◌/◌, ◌%◌, ◌<◌, ◌≤◌, min, List, [], ◌∷◌, ◌++◌, sym, refl, ap, ◌∙◌, add-one, arith}
+use Rattle.std.proofs.Common.{◌≡◌, ℕ, zero, suc, ◌+◌, ◌-◌, ◌/◌, ◌<◌, ◌≤◌, [], ◌∷◌, ap, arith}
 use Rattle.program.specs.Pieces.{Span, from_to, boundary, pieces_from, pieces_of}
 
 -- a range that ends at or before the next boundary is one piece

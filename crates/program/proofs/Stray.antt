@@ -1,5 +1,5 @@
 -- The detail of a stray bit is the lowest bit from 21 on that is set.
-use Rattle.std.proofs.Common.{◌≡◌, ℕ, zero, suc, ◌+◌, ◌-◌, ◌*◌, ◌/◌, ◌%◌, ◌^◌, ◌<◌, ◌≤◌, sym, refl, ap, ◌∙◌, suc-le-suc, le_of_suc-le-suc, add_comm, pow-suc, arith}
+use Rattle.std.proofs.Common.{◌≡◌, ℕ, zero, suc, ◌+◌, ◌/◌, ◌%◌, ◌^◌, ◌<◌, ◌≤◌, sym, refl, ap, ◌∙◌, suc-le-suc, le_of_suc-le-suc, add_comm, pow-suc, arith}
 use lib.Count.{count_trailing_zeros, under}
 use Rattle.std.proofs.lemmas.Nat.{shr-shr, mod-pow-add, field_of}
 use Rattle.program.specs.Headers.{stray_bits, LowestStray}

@@ -1,5 +1,4 @@
 -- What each refusal of the layers words and program tells.
-use Rattle.std.specs.Prelude.{ℕ}
 use Rattle.numbers.specs.Refusals.{Told}
 use Rattle.numbers.specs.declared.layer.Layer.TheVariants as layer
 use Rattle.program.specs.declared.fault.WordsFault.{WordsFault}

@@ -1,6 +1,6 @@
 -- The first word of a program. From bit 0 up: first place (8 bits), last place (8 bits), mode (2 bits), operator (2 bits),
 -- and one bit that marks a single. Bits 21 to 31 are 0.
-use Rattle.std.specs.Prelude.{◌≡◌, ℕ, ◌+◌, ◌*◌, ◌/◌, ◌%◌, ◌^◌, ◌<◌, ◌≤◌, Bool, cond, ◌&&◌, Ok, Err, Result, ◌==◌, nat_lt}
+use Rattle.std.specs.Prelude.{◌≡◌, ℕ, ◌+◌, ◌*◌, ◌/◌, ◌%◌, ◌^◌, ◌≤◌, cond, ◌&&◌, Ok, Err, Result, ◌==◌, nat_lt}
 use Rattle.std.specs.Int.Count.{count_trailing_zeros}
 use mir.Val.{bool_byte}
 use Rattle.operators.specs.declared.choice.Choice.{Choice}

@@ -1,5 +1,5 @@
 -- The three words of a program: its first word, its cell, and the word that a single sends.
-use Rattle.std.specs.Prelude.{◌≡◌, ℕ, Bool, true, false, cond, not, ◌&&◌, is_some, Some, None, Ok, Err, Option, Result, ◌==◌}
+use Rattle.std.specs.Prelude.{◌≡◌, true, false, cond, not, ◌&&◌, is_some, Some, None, Ok, Err, Option, Result, ◌==◌}
 use Rattle.std.specs.Option.{unwrap_or}
 use Rattle.operators.specs.Modes.{sending, sent, mode_of}
 use Rattle.program.specs.Headers.{read_header, write_header}

@@ -1,5 +1,5 @@
 -- The range between two places.
-use Rattle.std.specs.Prelude.{ℕ, ◌≤◌, Some, None, Option}
+use Rattle.std.specs.Prelude.{◌≤◌, Some, None, Option}
 use Rattle.std.proofs.Math.Decide.{dec_le}
 use Rattle.numbers.specs.declared.place.Place.{Place}
 use Rattle.program.specs.declared.range.PlaceRange.{PlaceRange}

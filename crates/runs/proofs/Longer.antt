@@ -1,15 +1,14 @@
 -- A run with one call more.
-use Rattle.std.proofs.Common.{◌≡◌, ℕ, zero, suc, ◌+◌, ◌<◌, List, [], ◌∷◌, ◌++◌, length, get_or, take, set, sym, refl, ap, ◌∙◌}
+use Rattle.std.proofs.Common.{◌≡◌, ℕ, ◌+◌, ◌<◌, List, [], ◌∷◌, ◌++◌, length, get_or, take, set, sym, refl, ap, ◌∙◌}
 use Rattle.std.proofs.lemmas.List.{take_more, take_more_set}
 use Rattle.memory.specs.Views.{View}
-use Rattle.machine.specs.Laws.{Law, Keeps}
+use Rattle.machine.specs.Laws.{Keeps}
 use Rattle.machine.specs.Means.{Mean}
-use Rattle.machine.specs.Soundness.{new_mean}
 use Rattle.machine.specs.Steps as defined
 use Rattle.machine.specs.Steps.{History, Run, seen}
 use Rattle.machine.specs.declared.answer.Answer.{Answer}
 use Rattle.machine.proofs.Lawful.{lawful}
-use Rattle.runs.specs.Asked.{call_of, calls_of, asked, told, Ran, GoesOn}
+use Rattle.runs.specs.Asked.{call_of, calls_of, GoesOn}
 use Rattle.runs.specs.declared.call.Call.{Call}
 
 calls_push : (cs : List Call) (c : Call) → calls_of (cs ++ c ∷ []) ≡ calls_of cs ++ call_of c ∷ []

@@ -1,5 +1,5 @@
 -- What a whole run gives.
-use Rattle.std.specs.Prelude.{◌≡◌, ℕ, min, List, length, take, Err}
+use Rattle.std.specs.Prelude.{◌≡◌, min, List, length, take, Err}
 use Rattle.memory.specs.declared.interface.HallMemory.{Ghosts}
 use Rattle.machine.specs.declared.answer.Answer.{Answer}
 use Rattle.mover.specs.Making.{mover_check}

@@ -1,5 +1,5 @@
 -- What the entries of a sheet leave in a window.
-use Rattle.std.proofs.Common.{◌≡◌, ℕ, zero, suc, ◌+◌, ◌*◌, ◌<◌, ◌≤◌, Bool, true, false, cond, not, ◌||◌, eqb, ltb, ◌≢◌, ◌⊎◌, List, length, get_or, set, Some, None, Ok, Err, Option, Result, sym, refl, ap, ◌∙◌, inl, inr, ⊎_elim, le_of_suc-le-suc, eq-or-lt_of_le, add-one, arith, length-set}
+use Rattle.std.proofs.Common.{◌≡◌, ℕ, zero, suc, ◌+◌, ◌*◌, ◌<◌, ◌≢◌, List, length, get_or, set, Some, None, Ok, Err, Option, Result, sym, refl, ap, ◌∙◌, ⊎_elim, le_of_suc-le-suc, eq-or-lt_of_le, add-one, arith, length-set}
 use Rattle.std.proofs.lemmas.List.Edits.{length-between, get_or-between}
 use Rattle.std.proofs.lemmas.List.{get_or-set_same, get_or-set_other}
 use Rattle.std.proofs.lemmas.Bool.{cond_both}
@@ -8,7 +8,7 @@ use Rattle.numbers.specs.Rising.{not_rising}
 use Rattle.numbers.proofs.Scans.{rising_order}
 use Rattle.sheet.specs.declared.fault.SheetFault.{SheetFault}
 use Rattle.sheet.specs.declared.fault.SheetFault.TheVariants.{Length}
-use Rattle.sheet.specs.Sheets.{count, byte, places, place_at, word_at, bad_length, if_rising, sheet_check, filled_to, filled, Fills}
+use Rattle.sheet.specs.Sheets.{count, places, place_at, word_at, bad_length, if_rising, sheet_check, filled_to, filled, Fills}
 
 pub filled_none : (bytes : List ℕ) (window : List (Option ℕ)) → window ≡ filled_to 0 bytes window
 unfolding filled_to

@@ -1,4 +1,4 @@
-use Rattle.std.proofs.Common.{◌≡◌, ℕ, ◌+◌, ◌<◌, ◌≤◌, length, Ok, subst, arith, rules}
+use Rattle.std.proofs.Common.{Ok, subst, rules}
 use Rattle.memory.specs.Effects.{Sends}
 use Rattle.memory.specs.declared.request.Request.{Request}
 use Rattle.program.specs.Pieces.{span}

@@ -1,4 +1,4 @@
-use Rattle.std.proofs.Common.{sym, ap, ◌∙◌, arith, ltb-true}
+use Rattle.std.proofs.Common.{ap, ◌∙◌, arith, ltb-true}
 use Rattle.std.proofs.lemmas.List.{take_rest}
 use Rattle.reading.specs.Fields.{after_spaces}
 use Rattle.reading.proofs.Spaces.{spaces_more, spaces_none, spaces_end}

@@ -1,4 +1,4 @@
-use Rattle.std.proofs.Common.{arith, rules}
+use Rattle.std.proofs.Common.{arith}
 use Rattle.mover.specs.Meaning.{mean, hall_view}
 use Rattle.runs.specs.declared.call.Call.TheVariants.{Reserve}
 use Rattle.runs.proofs.Longer.{goes_none, goes_more}

@@ -1,4 +1,3 @@
-use Rattle.std.proofs.Common.{◌≡◌, ◌≤◌, min, length}
 use Rattle.mover.specs.Meaning.{mean, hall_view, MoverSound}
 use Rattle.runs.specs.Asked.{GoesOn}
 use Rattle.runs.proofs.run.carry_all.Given as goal

@@ -1,5 +1,4 @@
-use Rattle.std.proofs.Common.{◌≡◌, ℕ, min, List, [], length, take, sym, ap, ◌∙◌, subst}
-use Rattle.memory.specs.Views.{View}
+use Rattle.std.proofs.Common.{ℕ, min, length, take, sym, ap, ◌∙◌, subst}
 use Rattle.mover.specs.Meaning.{mean, hall_view}
 use Rattle.mover.proofs.Fresh.{idle_memory}
 use Rattle.runs.specs.Asked.{Ran}

@@ -1,4 +1,4 @@
-use Rattle.std.proofs.Common.{◌≡◌, ℕ, get_or, set, vec_items, ap, ◌∙◌, rules}
+use Rattle.std.proofs.Common.{◌≡◌, get_or, set, vec_items, ap, ◌∙◌, rules}
 use Rattle.numbers.proofs.Scans.{same_key}
 use Rattle.operators.specs.Modes.{word_after}
 use Rattle.std.proofs.lemmas.List.{get_or_read}

@@ -1,4 +1,4 @@
-use Rattle.std.proofs.Common.{◌≡◌, refl, ◌∙◌, rules}
+use Rattle.std.proofs.Common.{◌≡◌, rules}
 use Rattle.machine.specs.Calls.{start_program}
 use Rattle.machine.proofs.KeptCalls.{sound_start}
 use Rattle.machine.proofs.KeptLines.{line_room}

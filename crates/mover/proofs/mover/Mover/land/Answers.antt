@@ -1,7 +1,7 @@
-use Rattle.std.proofs.Common.{◌≡◌, Bool, length, sym, refl, ap, ◌∙◌, subst, arith, rules}
+use Rattle.std.proofs.Common.{◌≡◌, Bool, length, sym, ap, subst, arith}
 use Rattle.memory.specs.Effects.{Takes}
 use Rattle.memory.specs.declared.request.Taken.TheVariants.{Reply}
-use Rattle.machine.specs.Turns.{land_piece, rest}
+use Rattle.machine.specs.Turns.{rest}
 use Rattle.machine.specs.declared.answer.Landing.TheVariants as lands
 use Rattle.mover.specs.Halves.{Lands}
 use Rattle.machine.proofs.KeptLanding.{always_taken}

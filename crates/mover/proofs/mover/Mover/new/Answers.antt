@@ -1,6 +1,6 @@
-use Rattle.std.proofs.Common.{◌≡◌, sym, subst, rules}
+use Rattle.std.proofs.Common.{sym, subst, rules}
 use Rattle.machine.specs.Means.{Mean}
-use Rattle.machine.specs.Soundness.{Sound, new_mean}
+use Rattle.machine.specs.Soundness.{Sound}
 use Rattle.machine.proofs.KeptCalls.{sound_new}
 use Rattle.machine.proofs.Lawful.{opens}
 use Rattle.mover.proofs.Fresh.{new_mean_is, idle_memory}

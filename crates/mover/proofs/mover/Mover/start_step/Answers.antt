@@ -1,7 +1,5 @@
-use Rattle.std.proofs.Common.{◌≡◌, ℕ, ◌<◌, Some, None, Ok, Err, sym, refl, ap, ◌∙◌, subst, rules}
-use Rattle.program.specs.Layout.{read_program}
+use Rattle.std.proofs.Common.{ℕ, ◌<◌, sym, refl, ap, ◌∙◌, subst}
 use Rattle.machine.specs.Calls.{start_checks, start_program, stored}
-use Rattle.machine.specs.declared.record.Stored.{Stored}
 use Rattle.mover.specs.Meaning.{mean}
 use Rattle.mover.proofs.Starting.{channel_known, answered_ok, answered_err, refused_answer, refused_state, accepted_answer, accepted_state, rests}
 use Rattle.mover.proofs.mover.Mover.start_step.Goals as goal

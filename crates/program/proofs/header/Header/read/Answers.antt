@@ -1,5 +1,4 @@
-use Rattle.std.proofs.Common.{◌≡◌, ◌^◌, ◌<◌, arith, rules}
-use Rattle.program.specs.Headers.{read_header}
+use Rattle.std.proofs.Common.{arith, rules}
 use Rattle.program.proofs.HeaderTrips.{read_back, read_lowest}
 use Rattle.program.proofs.header.Header.read.Goals as goal
 

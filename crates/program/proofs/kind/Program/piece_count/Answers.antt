@@ -1,5 +1,5 @@
-use Rattle.std.proofs.Common.{◌≡◌, ℕ, ◌+◌, ◌-◌, ◌/◌, ◌≤◌, length, sym, ap, ◌∙◌, arith, rules}
-use Rattle.program.specs.Pieces.{Span, Covers, pieces_of, span}
+use Rattle.std.proofs.Common.{◌≡◌, ◌+◌, length, sym, ap, ◌∙◌, rules}
+use Rattle.program.specs.Pieces.{Span, pieces_of, span}
 use Rattle.program.proofs.Covering.{covers}
 use Rattle.program.proofs.kind.Program.piece_count.Goals as goal
 

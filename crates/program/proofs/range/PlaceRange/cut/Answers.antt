@@ -1,4 +1,4 @@
-use Rattle.std.proofs.Common.{arith, rules}
+use Rattle.std.proofs.Common.{rules}
 use Rattle.program.specs.Pieces.{span}
 use Rattle.program.proofs.Cutting.{pieces_last, pieces_more}
 use Rattle.program.proofs.range.PlaceRange.cut.Goals as goal
