@@ -10,6 +10,7 @@ ghost use Rattle.session.specs.Halls.{HallSound};
 use session::script::Script;
 use std::io;
 use std::io::{BufWriter, ErrorKind, Read, Write};
+use std::process::ExitCode;
 
 // How many bytes are read at once, at most.
 const CHUNK: usize = 16_384;
@@ -54,10 +55,12 @@ fn run(rt: &HostRuntime) -> io::Result<()> {
     Err(io::Error::other("the input does not end"))
 }
 
-fn main(rt: HostRuntime) -> io::Result<()> {
-    let result = run(&rt);
-    if let Err(error) = result {
-        let _ = eprintln!(rt; "hall: {error}");
+fn main(rt: HostRuntime) -> ExitCode {
+    match run(&rt) {
+        Ok(()) => ExitCode::SUCCESS,
+        Err(error) => {
+            let _ = eprintln!(rt; "hall: {error}");
+            ExitCode::FAILURE
+        }
     }
-    result
 }
