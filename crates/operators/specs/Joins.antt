@@ -1,4 +1,4 @@
--- Addition of words. The other three operators are bitAnd, bitOr and max of the library.
+-- Addition of words. The other three operators are bit_and, bit_or and max of the library.
 use Rattle.std.specs.Prelude.{ℕ, ◌+◌, ◌%◌, ◌^◌}
 
 -- the sum modulo 2^32

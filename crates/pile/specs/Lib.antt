@@ -1,2 +1,3 @@
 pub mod Eithers
 pub mod Piles
+pub mod Plans

@@ -1,4 +1,5 @@
-ghost use Rattle.pile.specs.Piles.{BaseSound, SharedSound, PileSound, Made};
+ghost use Rattle.pile.specs.Piles.{base_view, BaseSound, shared_view, SharedSound, pile_view, PileSound, Made};
+ghost use Rattle.pile.specs.Plans.{base_planned, shared_planned, pile_planned, AsPlanned};
 
 use crate::either::Either;
 use crate::making::{catalogue, flat, route, spread};
@@ -31,7 +32,8 @@ pub enum PilePlan {
 
 impl BasePlan {
     fn make(self) -> Result<Base, MemoryFault>
-        ensures { Made BaseSound result }
+        ensures made { Made BaseSound result }
+        ensures planned { AsPlanned base_view (base_planned self) result }
     {
         match self {
             BasePlan::Flat(words) => flat(words),
@@ -42,7 +44,8 @@ impl BasePlan {
 
 impl SharedPlan {
     fn make(self) -> Result<Shared, MemoryFault>
-        ensures { Made SharedSound result }
+        ensures made { Made SharedSound result }
+        ensures planned { AsPlanned shared_view (shared_planned self) result }
     {
         match self {
             SharedPlan::One(base) => Ok(Either::First(base.make()?)),
@@ -57,7 +60,8 @@ impl SharedPlan {
 
 impl PilePlan {
     pub fn make(self) -> Result<Pile, MemoryFault>
-        ensures { Made PileSound result }
+        ensures made { Made PileSound result }
+        ensures planned { AsPlanned pile_view (pile_planned self) result }
     {
         match self {
             PilePlan::Plain(shared) => Ok(Either::First(shared.make()?)),

@@ -1,3 +1,4 @@
 pub mod Fields
 pub mod Decimal
 pub mod Names
+pub mod Lines

@@ -1,4 +1,6 @@
-ghost use Rattle.std.specs.Prelude.{◌≤◌, vec_len};
+ghost use Rattle.std.specs.Prelude.{◌≡◌, ◌≤◌, false, [], length, is_ok, if◌then◌else◌, vec_len, ◌==◌};
+ghost use Rattle.std.specs.Option.{option_map};
+ghost use Rattle.reading.specs.Lines.{with_byte, marked_after, whole_line};
 
 use std::alloc::{AllocError, Global};
 
@@ -14,7 +16,10 @@ pub struct Line {
 }
 
 impl Line {
-    pub fn new(heap: Global) -> Line {
+    pub fn new(heap: Global) -> Line
+        ensures bytes { result.bytes.items ≡ [] }
+        ensures mark { result.too_long ≡ false }
+    {
         Line {
             bytes: Vec::new(heap),
             too_long: false,
@@ -22,7 +27,11 @@ impl Line {
     }
 
     // Adds a byte. Past the longest line it is not stored, so that no input takes all memory.
-    pub fn push(&mut self, byte: u8) -> Result<(), AllocError> {
+    // Where there is no memory for it, nothing changes.
+    pub fn push(&mut self, byte: u8) -> Result<(), AllocError>
+        ensures bytes { self.new.bytes.items ≡ (if is_ok result then with_byte self.old.bytes.items byte else self.old.bytes.items) }
+        ensures mark { self.new.too_long ≡ (if is_ok result then marked_after self.old.bytes.items self.old.too_long else self.old.too_long) }
+    {
         if self.bytes.len() >= LONGEST {
             self.too_long = true;
             return Ok(());
@@ -31,12 +40,17 @@ impl Line {
         Ok(())
     }
 
-    pub fn is_empty(&self) -> bool {
+    // Whether no byte is stored.
+    pub fn is_empty(&self) -> bool
+        ensures { result ≡ (length self.now.bytes.items == 0) }
+    {
         self.bytes.is_empty()
     }
 
     // The whole line, or none where it is too long.
-    pub fn bytes(&self) -> Option<&[u8]> {
+    pub fn bytes(&self) -> Option<&[u8]>
+        ensures { option_map (λ x. x.now) result ≡ whole_line self.now.bytes.items self.now.too_long }
+    {
         if self.too_long {
             None
         } else {
@@ -45,7 +59,10 @@ impl Line {
     }
 
     // Starts the next line in the same memory.
-    pub fn clear(&mut self) {
+    pub fn clear(&mut self)
+        ensures bytes { self.new.bytes.items ≡ [] }
+        ensures mark { self.new.too_long ≡ false }
+    {
         self.bytes.clear();
         self.too_long = false;
     }
