@@ -46,12 +46,11 @@ module _ (m : Mean) (none : None ≡ option_map to_channel (lowest_free m.record
 pub returns : goal.returns
 returns g c =
     let m = mean c.args.self.now in
-    let state = opened m c.in-Some.channel c.empty_record.result c.in-Some.ensures.value c.empty_record.ensures in
     record {
-      sound = kept_by g.M.HallMemory c.args.self.now _ (reserve_state m) c.requires refl (record { singles = c.requires.lines.singles; blocks = c.requires.lines.blocks; flight = c.requires.lines.flight }) state
-          (sound_reserve m _ c.requires.state);
+      sound = kept_by g.M.HallMemory c.args.self.now _ (reserve_state m) c.requires refl (record { singles = c.requires.lines.singles; blocks = c.requires.lines.blocks; flight = c.requires.lines.flight })
+          (opened m c.in-Some.channel _ c.in-Some.ensures.value (search rules)) (sound_reserve m _ c.requires.state);
       answer = given m c.in-Some.channel c.in-Some.ensures.value;
-      state = state;
+      state = opened m c.in-Some.channel _ c.in-Some.ensures.value (search rules);
       memory = search rules;
     }
 
