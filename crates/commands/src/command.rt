@@ -1,6 +1,10 @@
+ghost use Rattle.commands.specs.Troubles.{Spells};
+ghost use Rattle.commands.specs.Commands.{meaning, other_named, command_named, spelled};
+
 use crate::memories::MemoryCommand;
 use crate::movers::MoverCommand;
-use crate::pile_text::read_pile;
+use crate::names::is;
+use crate::piles::read_pile;
 use crate::programs::ProgramCommand;
 use crate::trouble::Trouble;
 use pile::plan::PilePlan;
@@ -18,24 +22,48 @@ pub enum Command {
 }
 
 impl Command {
+    // The command of this name other than memory, with its arguments from the fields.
+    fn read_other(heap: Global, name: &[u8], fields: &mut Fields) -> Result<Command, Trouble>
+        ensures { Spells (λ x. (meaning x, fields.new.rest.now)) (other_named name.now fields.old.rest.now) result }
+    {
+        if ProgramCommand::has(name) {
+            let command = ProgramCommand::read(name, fields).ok_or(Trouble::BadLine)?;
+            Ok(Command::Programs(command))
+        } else if MemoryCommand::has(name) {
+            let command = MemoryCommand::read(name, fields).ok_or(Trouble::BadLine)?;
+            Ok(Command::Memory(command))
+        } else if is(name, b"mover") {
+            Ok(Command::MakeMover)
+        } else {
+            Ok(Command::Mover(MoverCommand::read(heap, name, fields)?))
+        }
+    }
+
+    // The command of this name, with its arguments from the text, and the text behind them.
+    fn read_named<'a>(
+        heap: Global,
+        name: &[u8],
+        text: &'a [u8],
+    ) -> Result<(Command, &'a [u8]), Trouble>
+        ensures { Spells (λ x. (meaning x.0, x.1.now)) (command_named name.now text.now) result }
+    {
+        if is(name, b"memory") {
+            let (plan, rest) = read_pile(heap, text)?;
+            return Ok((Command::MakeMemory(plan), rest));
+        }
+        let mut fields = Fields::new(text);
+        let command = Command::read_other(heap, name, &mut fields)?;
+        Ok((command, fields.rest()))
+    }
+
     // The command that a line spells.
-    pub fn read(heap: Global, line: &[u8]) -> Result<Command, Trouble> {
+    pub fn read(heap: Global, line: &[u8]) -> Result<Command, Trouble>
+        ensures { Spells meaning (spelled line.now) result }
+    {
         let mut fields = Fields::new(line);
         let name = fields.next().ok_or(Trouble::BadLine)?;
-        if name == b"memory".as_slice() {
-            return Ok(Command::MakeMemory(read_pile(heap, fields.rest())?));
-        }
-        let command = match name {
-            b"program" | b"pieces" | b"join" => {
-                Command::Programs(ProgramCommand::read(name, &mut fields).ok_or(Trouble::BadLine)?)
-            }
-            b"send" | b"take" | b"waiting" => {
-                Command::Memory(MemoryCommand::read(name, &mut fields).ok_or(Trouble::BadLine)?)
-            }
-            b"mover" => Command::MakeMover,
-            _ => Command::Mover(MoverCommand::read(heap, name, &mut fields)?),
-        };
-        if fields.at_end() {
+        let (command, rest) = Command::read_named(heap, name, fields.rest())?;
+        if Fields::new(rest).at_end() {
             Ok(command)
         } else {
             Err(Trouble::BadLine)

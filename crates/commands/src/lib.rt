@@ -1,10 +1,13 @@
 // The commands of a script, as lines spell them.
 #![tactic(auto)]
 
+mod choices;
 pub mod command;
+mod lists;
 pub mod memories;
 pub mod movers;
-mod pile_text;
+mod names;
+mod piles;
 pub mod programs;
 mod requests;
 pub mod trouble;

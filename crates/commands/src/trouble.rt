@@ -1,3 +1,7 @@
+ghost use Rattle.std.specs.Prelude.{◌≡◌};
+ghost use Rattle.commands.specs.Troubles.{Stops};
+ghost use Rattle.commands.specs.declared.trouble.Trouble.TheVariants.{Stopped};
+
 use std::alloc::{AllocError, AllocFailed};
 use std::io;
 
@@ -11,18 +15,24 @@ pub enum Trouble {
 }
 
 impl From<io::Error> for Trouble {
+    ghost from_gives = { λ error r. r ≡ Stopped error };
+
     fn from(error: io::Error) -> Trouble {
         Trouble::Stopped(error)
     }
 }
 
 impl From<AllocError> for Trouble {
+    ghost from_gives = { λ _ r. Stops r };
+
     fn from(error: AllocError) -> Trouble {
         Trouble::Stopped(error.into())
     }
 }
 
 impl<T: Drop> From<AllocFailed<T>> for Trouble {
+    ghost from_gives = { λ _ r. Stops r };
+
     fn from(refused: AllocFailed<T>) -> Trouble {
         Trouble::Stopped(refused.into())
     }

@@ -1,0 +1,6 @@
+mod Named
+mod Exits
+mod Digits
+mod Cuts
+mod FieldLists
+mod ItemLists
