@@ -1,0 +1,2 @@
+mod Performing
+mod Repeating

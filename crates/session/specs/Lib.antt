@@ -1,1 +1,1 @@
-pub mod Halls
+pub mod Performed
