@@ -1,13 +1,11 @@
 -- One channel of a sound mover in plain terms: its record, how often it stands in each line, its final pieces, its places due.
 -- A change of the mover is then a change of these for one channel, and of nothing for the others.
-use Rattle.std.proofs.Common.{◌≡◌, ℕ, ◌+◌, ◌-◌, ◌<◌, ◌≤◌, Bool, true, false, ◌≢◌, List, length, get_or, set, sym, refl, ap, ◌∙◌, subst, ⊎_elim, arith}
-use mir.Val.{bool_byte}
+use Rattle.std.proofs.Common.{◌≡◌, ℕ, ◌<◌, ◌≤◌, Bool, ◌≢◌, List, length, get_or, set, sym, refl, ap, ◌∙◌, subst, ⊎_elim, arith}
 use Rattle.std.proofs.lemmas.List.{get_or-set_same, get_or-set_other, length-set}
 use Rattle.std.proofs.lemmas.Bool.{cases_eq}
 use Rattle.memory.specs.Views.{View}
-use Rattle.program.specs.Pieces.{count_up}
 use Rattle.machine.specs.Means.{Mean, Window, record_of, with_record, absent}
-use Rattle.machine.specs.Soundness.{times, finals, dues, places_due, still_due, FinalLast, ChannelsFit, PiecesFit, Stands, ChannelSound, Sound}
+use Rattle.machine.specs.Soundness.{times, finals, dues, places_due, FinalLast, ChannelsFit, PiecesFit, Stands, ChannelSound, Sound}
 use Rattle.machine.specs.declared.record.Record.{Record}
 
 pub same_stands : (q r : Record) (t c g s b f : ℕ) (qs ps : List ℕ) → q ≡ r → t ≡ s → c ≡ b → g ≡ f → qs ≡ ps → Stands r s b f ps → Stands q t c g qs

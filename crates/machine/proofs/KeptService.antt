@@ -5,7 +5,7 @@ use Rattle.std.proofs.lemmas.List.{length-append}
 use Rattle.std.proofs.lemmas.Bool.{cases_Bool, cond_both, cond-true, cond-false, and_from, and_right, or_parts, or_left, eq-eqb, ne_eqb, eqb-false, ltb-true, lt-leb}
 use Rattle.std.proofs.lemmas.Bool.Decides.{nat_tests}
 use Rattle.memory.specs.Effects.{Sends, refuses}
-use Rattle.memory.specs.Views.{View, room}
+use Rattle.memory.specs.Views.{View}
 use Rattle.memory.specs.declared.fault.MemoryFault.{MemoryFault}
 use Rattle.memory.specs.declared.fault.MemoryFault.TheVariants.{TransitFull}
 use Rattle.memory.specs.declared.request.Request.{Request}

@@ -1,12 +1,11 @@
 -- The law of every run, and that every step keeps it.
-use Rattle.std.proofs.Common.{◌≡◌, ℕ, List, [], ◌∷◌, sym, subst}
+use Rattle.std.proofs.Common.{◌≡◌, [], sym, subst}
 use Rattle.memory.specs.Views.{View}
 use Rattle.machine.specs.Laws.{Law, Keeps, Opens}
 use Rattle.machine.specs.Means.{Mean}
-use Rattle.machine.specs.Soundness.{Sound, new_mean}
-use Rattle.machine.specs.Steps.{Call, Step, Event, History, Run, begin, next, seen}
+use Rattle.machine.specs.Soundness.{new_mean}
+use Rattle.machine.specs.Steps.{Call, Step, History, Run, begin, next, seen}
 use Rattle.machine.specs.declared.answer.Answer.{Answer}
-use Rattle.machine.proofs.Holding.{allotted}
 use Rattle.machine.proofs.KeptCalls.{sound_new}
 use Rattle.machine.proofs.KeptSteps.{sound_step}
 use Rattle.machine.proofs.Linked as links
@@ -44,7 +43,6 @@ lawful cells h m v nothing run =
       traced = trace.traced grounds run nothing;
       summed = summed cells (sound cells nothing) run;
       bounded = turns.bounded cells nothing (sound_new cells nothing) sound_step (turn_links cells nothing) run;
-      allotted = allotted cells (sound cells nothing) run;
     }
 
 pub keeps : (call : Call) (a : Answer) (m : Mean) (v : View) (n : Mean) (w : View) → Step call a m v n w → Keeps call a m v n w

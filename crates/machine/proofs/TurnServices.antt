@@ -11,7 +11,7 @@ use Rattle.machine.proofs.TurnCounts.{before, times_append, before_append, befor
 use Rattle.machine.proofs.TurnHalves.{Between, Kept, set_cases}
 use Rattle.machine.specs.Means.{Mean, absent, record_of}
 use Rattle.machine.specs.Soundness.{Sound, times, finals}
-use Rattle.machine.specs.Turns.{chosen, next_piece, final, served_record, rest, serve, served}
+use Rattle.machine.specs.Turns.{chosen, next_piece, final, served_record, rest, serve}
 use Rattle.machine.specs.declared.piece.Piece.{Piece}
 use Rattle.machine.specs.declared.record.Record.{Record}
 use Rattle.machine.specs.declared.record.Stored.{Stored}

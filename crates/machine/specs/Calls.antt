@@ -1,10 +1,9 @@
 -- What each call answers and does, by cases. Checks run in rising number, and the first that fails is given.
-use Rattle.std.specs.Prelude.{ℕ, zero, suc, ◌+◌, ◌-◌, ◌*◌, ◌^◌, Bool, true, false, cond, not, ◌&&◌, List, [], ◌∷◌, ◌++◌, replicate, is_some, Some, None, Ok, Err, Option, Result, nat_le, slice_index_or, slice_set}
+use Rattle.std.specs.Prelude.{ℕ, zero, suc, ◌+◌, ◌-◌, ◌*◌, ◌^◌, Bool, true, false, cond, not, List, [], ◌∷◌, ◌++◌, replicate, is_some, Some, None, Ok, Err, Option, Result, nat_le, slice_index_or, slice_set}
 use mir.Val.{bool_byte}
 use Rattle.std.specs.Option.{option_map, unwrap_or}
 use Rattle.numbers.specs.declared.channel.Channel.{Channel}
 use Rattle.operators.specs.Modes.{mode_of, sent}
-use Rattle.operators.specs.declared.mode.Mode.{Mode}
 use Rattle.operators.specs.declared.mode.Mode.TheVariants.{Load, Store, Mp, Sync}
 use Rattle.program.specs.Layout.{read_program}
 use Rattle.program.specs.declared.fault.ProgramFault.{ProgramFault}
@@ -13,10 +12,9 @@ use Rattle.program.specs.declared.kind.Program.TheVariants.{Block, Single}
 use Rattle.program.specs.declared.layout.Words.{Words}
 use Rattle.sheet.specs.Sheets.{sheet_check, filled}
 use Rattle.sheet.specs.declared.fault.SheetFault.{SheetFault}
-use Rattle.machine.specs.Means.{Mean, Window, cleared, record_of, with_record, with_quiet, with_lines, with_flags, with_window}
+use Rattle.machine.specs.Means.{Mean, Window, cleared, record_of, with_record, with_lines, with_flags, with_window}
 use Rattle.machine.specs.declared.fault.ChannelFault.{ChannelFault}
 use Rattle.machine.specs.declared.fault.ChannelFault.TheVariants as fault
-use Rattle.machine.specs.declared.record.Flags.{Flags}
 use Rattle.machine.specs.declared.record.Record.{Record}
 use Rattle.machine.specs.declared.record.Stored.{Stored}
 

@@ -1,7 +1,5 @@
 -- What is read off a history: only calls, answers, what look and status tell, and the memory's cells. Nothing is read from a record.
-use Rattle.std.specs.Prelude.{◌≡◌, ℕ, zero, suc, ◌+◌, ◌-◌, ◌/◌, ◌%◌, ◌^◌, ◌≤◌, Bool, true, false, cond, ◌&&◌, ◌⊎◌, List, [], ◌∷◌, ◌++◌, Some, None, Ok, Err, Option, Result, ◌==◌, ◌≢◌}
-use Rattle.numbers.specs.declared.channel.Channel.{Channel}
-use Rattle.operators.specs.declared.choice.Choice.{Choice}
+use Rattle.std.specs.Prelude.{◌≡◌, ℕ, ◌+◌, ◌-◌, ◌/◌, ◌%◌, ◌^◌, ◌≤◌, Bool, true, false, cond, ◌&&◌, ◌⊎◌, [], ◌∷◌, Some, None, Ok, Err, Option, ◌==◌, ◌≢◌}
 use Rattle.operators.specs.declared.mode.Mode.{Mode}
 use Rattle.operators.specs.declared.mode.Mode.TheVariants.{Load, Store, Mp, Sync}
 use Rattle.program.specs.Layout.{read_program}
@@ -14,7 +12,6 @@ use Rattle.machine.specs.declared.answer.Landing.{Landing}
 use Rattle.machine.specs.declared.answer.Landing.TheVariants as lands
 use Rattle.machine.specs.declared.answer.Service.{Service}
 use Rattle.machine.specs.declared.answer.Service.TheVariants as serves
-use Rattle.machine.specs.declared.fault.ChannelFault.{ChannelFault}
 use Rattle.machine.specs.declared.record.Stored.{Stored}
 
 -- what is seen after a history
@@ -31,9 +28,6 @@ landed_told s c = s.status c / 2 ^ 14 % 2 ^ 9
 
 abbrev pub sent_told : Seen → ℕ → ℕ
 sent_told s c = s.status c / 2 ^ 23 % 2 ^ 9
-
-abbrev pub reserved_told : Seen → ℕ → Bool
-reserved_told s c = s.status c / 2 ^ 3 % 2 == 1
 
 -- a call was accepted: its answer is no refusal
 abbrev pub accepted : Answer → Bool
@@ -109,25 +103,7 @@ resets_by c turn a = false
 abbrev pub resets : ℕ → Event → Bool
 resets c e = resets_by c e.call e.answer
 
--- a channel is held from the reserve that gave it to its accepted release
-abbrev pub releases_by : ℕ → Call → Answer → Bool
-releases_by c (release d) a = d == c && accepted a
-releases_by c reserve a = false
-releases_by c (put d p w) a = false
-releases_by c (fill d bytes) a = false
-releases_by c (start d w) a = false
-releases_by c (stop d) a = false
-releases_by c quiet a = false
-releases_by c wake a = false
-releases_by c (look d p) a = false
-releases_by c (status d) a = false
-releases_by c turn a = false
-
-abbrev pub held : ℕ → History → Bool
-held c [] = false
-held c (e ∷ h) = cond (given_to c e.answer) true (cond (releases_by c e.call e.answer) false (held c h))
-
--- the requests that turn's answers gave for the channel since its counts were set back
+-- the requests that turn's answers gave for the channel since then
 abbrev pub sent_by : ℕ → Service → ℕ
 sent_by c serves.Nothing = 0
 sent_by c (serves.Sent d n) = cond (d.0 == c) n 0

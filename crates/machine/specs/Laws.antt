@@ -1,6 +1,5 @@
 -- The laws over runs: what may be told of every history of the eleven calls from a new mover.
-use Rattle.std.specs.Prelude.{◌≡◌, ℕ, zero, suc, ◌+◌, ◌-◌, ◌*◌, ◌%◌, ◌^◌, ◌<◌, ◌≤◌, Bool, true, false, cond, ◌&&◌, List, [], ◌∷◌, ◌++◌, is_some, Some, None, Ok, Err, Option, Result, ◌==◌, nat_le, nat_lt}
-use mir.Val.{bool_byte}
+use Rattle.std.specs.Prelude.{◌≡◌, ℕ, zero, suc, ◌+◌, ◌-◌, ◌*◌, ◌^◌, ◌<◌, ◌≤◌, Bool, true, false, cond, ◌&&◌, List, [], ◌∷◌, ◌++◌, Some, None, Ok, Err, Option, Result, ◌==◌, nat_le, nat_lt}
 use Rattle.std.specs.Option.{option_map}
 use Rattle.memory.specs.Views.{View, longest}
 use Rattle.operators.specs.Choices.{join_by}
@@ -8,10 +7,10 @@ use Rattle.operators.specs.Modes.{sending, word_after}
 use Rattle.operators.specs.declared.choice.Choice.{Choice}
 use Rattle.operators.specs.declared.mode.Mode.{Mode}
 use Rattle.operators.specs.declared.mode.Mode.TheVariants.{Load, Store, Mp, Sync}
-use Rattle.machine.specs.Histories.{now_seen, runs, landed_told, sent_told, reserved_told, given_to, held, starts, Starts, Begun, begun, sent_count, landed_count, turns_since, stopped, touched, cell_at, Names, Clashes}
+use Rattle.machine.specs.Histories.{now_seen, runs, landed_told, sent_told, starts, Starts, Begun, begun, sent_count, landed_count, turns_since, stopped, touched, cell_at, Names, Clashes}
 use Rattle.machine.specs.Means.{Mean}
 use Rattle.machine.specs.Soundness.{new_mean}
-use Rattle.machine.specs.Steps.{Call, Step, Seen, seen, Event, History, Run}
+use Rattle.machine.specs.Steps.{Call, Step, Seen, seen, History, Run}
 use Rattle.machine.specs.Turns.{has_replies}
 use Rattle.machine.specs.declared.answer.Answer.{Answer}
 use Rattle.machine.specs.declared.answer.Answer.TheVariants as answer
@@ -19,7 +18,6 @@ use Rattle.machine.specs.declared.answer.Service.{Service}
 use Rattle.machine.specs.declared.answer.Service.TheVariants as serves
 use Rattle.machine.specs.declared.fault.ChannelFault.{ChannelFault}
 use Rattle.machine.specs.declared.fault.ChannelFault.TheVariants.{Empty}
-use Rattle.machine.specs.declared.record.Stored.{Stored}
 
 -- THE PROGRAM BY ITSELF
 
@@ -111,21 +109,10 @@ abbrev pub join_all : Choice → ℕ → List ℕ → ℕ
 join_all o opening [] = opening
 join_all o opening (w ∷ ws) = join_by o (join_all o opening ws) w
 
--- how often a word stands in a list
-abbrev pub times_in : ℕ → List ℕ → ℕ
-times_in w [] = 0
-times_in w (x ∷ xs) = bool_byte (x == w) + times_in w xs
-
--- the same words, each as often, in whatever order
-abbrev pub SameWords : List ℕ → List ℕ → Type 0
-SameWords xs ys = (w : ℕ) → times_in w xs ≡ times_in w ys
-
--- Sums are whole: a fitted cell changed under one operator only holds its opening word joined with every word sent to it, each exactly once,
--- in whatever order they are joined.
+-- Sums are whole: a fitted cell changed under one operator only holds its opening word joined with every word sent to it, each exactly once.
 abbrev pub Summed : Seen → History → Type 0
 Summed opening h =
-    (a : ℕ) → a < 2 ^ 32 → (o : Choice) → OnlyUnder o a h → (words : List ℕ) → SameWords words (words_sent a h)
-    → (now_seen opening h).cell a ≡ option_map (λ w. join_all o w words) (opening.cell a)
+    (a : ℕ) → a < 2 ^ 32 → (o : Choice) → OnlyUnder o a h → (now_seen opening h).cell a ≡ option_map (λ w. join_all o w (words_sent a h)) (opening.cell a)
 
 -- TURNS
 
@@ -146,23 +133,10 @@ pub record Bounded (opening : Seen) (h : History) : Type 0 where
   pub none_unsent : (c : ℕ) → c < 16 → (b : Begun) → begun c h ≡ Some b → Ends opening c h → stopped c h ≡ false
       → sent_count c h ≡ b.program.last + 1 - b.program.first
 
--- WHO HOLDS A CHANNEL
-
--- whenever a channel was given, nobody held it
-abbrev pub GivenFree : History → Type 0
-GivenFree [] = Unit {0}
-GivenFree (e ∷ h) = ((c : ℕ) → given_to c e.answer ≡ true → held c h ≡ false) × GivenFree h
-
--- Channels have one holder: status tells which are held, and a channel that was given is not given again before its release.
-pub record Allotted (opening : Seen) (h : History) : Type 0 where
-  pub told : (c : ℕ) → c < 16 → reserved_told (now_seen opening h) c ≡ held c h
-  pub given_free : GivenFree h
-
 pub record Law (opening : Seen) (h : History) : Type 0 where
   pub traced : Traced opening h
   pub summed : Summed opening h
   pub bounded : Bounded opening h
-  pub allotted : Allotted opening h
 
 -- What every call says of every run that it goes on from: the step that it makes, the longer run, and the law of that run.
 pub record Keeps (call : Call) (answer : Answer) (before : Mean) (was : View) (after : Mean) (is : View) : Type 0 where

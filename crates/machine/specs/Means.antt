@@ -1,10 +1,9 @@
 -- The meaning of the mover's state, and its parts.
-use Rattle.std.specs.Prelude.{ℕ, Bool, true, false, List, [], None, Option, slice_index_or, slice_set}
+use Rattle.std.specs.Prelude.{ℕ, Bool, false, List, [], Option, slice_index_or, slice_set}
 use Rattle.numbers.specs.declared.channel.Channel.{Channel}
 use Rattle.operators.specs.declared.mode.Mode.TheVariants.{Load}
 use Rattle.queue.specs.Queues.{items}
 use Rattle.machine.specs.declared.piece.Piece.{Piece}
-use Rattle.machine.specs.declared.record.Counts.{Counts}
 use Rattle.machine.specs.declared.record.Flags.{Flags}
 use Rattle.machine.specs.declared.record.Record.{Record}
 use Rattle.machine.specs.declared.record.Stored.{Stored}

@@ -1,5 +1,5 @@
 -- What a turn answers and does: the landing, and then the service.
-use Rattle.std.specs.Prelude.{◌≡◌, ℕ, zero, suc, ◌+◌, ◌-◌, ◌%◌, ◌^◌, ◌<◌, Bool, true, false, cond, not, ◌&&◌, ◌||◌, List, [], ◌∷◌, ◌++◌, length, is_some, Some, None, Ok, Option, ◌==◌, nat_lt, slice_index_or, slice_set}
+use Rattle.std.specs.Prelude.{◌≡◌, ℕ, zero, suc, ◌+◌, ◌-◌, ◌%◌, ◌^◌, Bool, true, false, cond, not, ◌&&◌, ◌||◌, List, [], ◌∷◌, ◌++◌, length, is_some, Some, None, Ok, Option, ◌==◌, nat_lt, slice_index_or, slice_set}
 use Rattle.std.specs.Option.{unwrap_or}
 use Rattle.memory.specs.Effects.{Sends, Takes}
 use Rattle.memory.specs.Views.{View}
@@ -19,7 +19,6 @@ use Rattle.machine.specs.declared.answer.Service.TheVariants as serves
 use Rattle.machine.specs.declared.answer.Turned.{Turned}
 use Rattle.machine.specs.declared.piece.Piece.{Piece}
 use Rattle.machine.specs.declared.record.Record.{Record}
-use Rattle.machine.specs.declared.record.Stored.{Stored}
 
 -- LANDING. A reply with a word fills the oldest piece's next place; one with no word empties that place and sets the error bit.
 -- The landed count rises by one. When the final piece's last reply lands, the channel ceases to run.

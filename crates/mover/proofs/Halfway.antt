@@ -1,21 +1,16 @@
 -- A mover after its landing, and after its service.
-use Rattle.std.proofs.Common.{◌≡◌, ℕ, List, [], ◌∷◌, is_some, Option, sym, refl, ap, ◌∙◌, subst}
+use Rattle.std.proofs.Common.{◌≡◌, ℕ, List, ◌∷◌, is_some, Option, sym, refl, ap, ◌∙◌, subst}
 use Rattle.memory.specs.Effects.{Takes}
-use Rattle.memory.specs.Views.{View}
 use Rattle.memory.specs.declared.interface.HallMemory.{Ghosts}
-use Rattle.memory.specs.declared.request.Taken.{Taken}
 use Rattle.memory.specs.declared.request.Taken.TheVariants.{Reply}
 use Rattle.machine.specs.Means.{Mean}
 use Rattle.machine.specs.Soundness.{Sound}
-use Rattle.machine.specs.Turns.{TakenOnce, SentAll, landed, landing, land_piece, rest, served, service, serviced, requested}
-use Rattle.machine.specs.declared.answer.Landing.{Landing}
+use Rattle.machine.specs.Turns.{TakenOnce, SentAll, landed, landing, land_piece, rest, served, serviced, requested}
 use Rattle.machine.specs.declared.answer.Landing.TheVariants as lands
-use Rattle.machine.specs.declared.answer.Service.{Service}
 use Rattle.machine.specs.declared.piece.Piece.{Piece}
 use Rattle.machine.proofs.KeptSteps.{sound_landed, sound_served}
-use Rattle.mover.specs.Halves.{Lands, Serves}
-use Rattle.channels.specs.Standing.{LinesSound}
-use Rattle.mover.specs.Meaning.{mean, MoverSound}
+use Rattle.mover.specs.Halves.{Lands}
+use Rattle.mover.specs.Meaning.{mean, LinesSound, MoverSound}
 use Rattle.mover.specs.declared.mover.Mover.{Mover}
 
 module _ {M : Type 0} (hall : Ghosts M) (s t : Mover M) (sound : MoverSound hall s) (memory : hall.sound t.memory) (lines : LinesSound t.state) where

@@ -1,5 +1,5 @@
 -- The two halves of a turn.
-use Rattle.std.specs.Prelude.{◌≡◌, Bool, cond, List, [], ◌∷◌, ◌++◌, Some, None, Option}
+use Rattle.std.specs.Prelude.{◌≡◌, Bool, cond, [], ◌∷◌, ◌++◌, Some, None, Option}
 use Rattle.memory.specs.Views.{View}
 use Rattle.memory.specs.declared.request.Taken.{Taken}
 use Rattle.numbers.specs.declared.channel.Channel.{Channel}

@@ -1,9 +1,10 @@
 -- The meaning of a mover, and what its making gives and every call keeps.
 use Rattle.memory.specs.Views.{View}
 use Rattle.memory.specs.declared.interface.HallMemory.{Ghosts}
+use Rattle.queue.specs.Queues as queue
 use Rattle.machine.specs.Means.{Mean, mean_of}
 use Rattle.machine.specs.Soundness.{Sound}
-use Rattle.channels.specs.Standing.{LinesSound}
+use Rattle.machine.specs.declared.state.State.{State}
 use Rattle.mover.specs.declared.mover.Mover.{Mover}
 
 abbrev pub mean : {M : Type 0} → Mover M → Mean
@@ -12,6 +13,11 @@ mean s = mean_of s.state
 -- the meaning of the hall memory below
 abbrev pub hall_view : {M : Type 0} → Ghosts M → Mover M → View
 hall_view hall s = hall.view s.memory
+
+pub record LinesSound (s : State) : Type 0 where
+  pub singles : queue.Sound s.singles
+  pub blocks : queue.Sound s.blocks
+  pub flight : queue.Sound s.flight
 
 pub record MoverSound {M : Type 0} (hall : Ghosts M) (s : Mover M) : Type 0 where
   pub memory : hall.sound s.memory

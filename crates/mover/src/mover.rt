@@ -1,5 +1,6 @@
 pub mod calls;
 pub mod making;
+mod steps;
 mod turning;
 
 use machine::state::State;

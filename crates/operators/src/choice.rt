@@ -1,5 +1,8 @@
 ghost use Rattle.operators.specs.Choices.{join_by};
-ghost use Rattle.operators.specs.Chosen.{chosen_bracketing, chosen_order};
+ghost use Rattle.std.proofs.Common.{arith};
+ghost use Rattle.operators.specs.declared.choice.Choice.TheVariants.{And, Or, Max, Add};
+ghost use Rattle.operators.specs.Bracketing.{and_bracketing, or_bracketing, add_bracketing};
+ghost use Rattle.std.proofs.lemmas.Nat.{and_comm, or_comm};
 
 use crate::four::{Add, And, Max, Or};
 use crate::operator::Operator;
@@ -16,9 +19,19 @@ pub enum Choice {
 impl Operator for Choice {
     ghost joined = { join_by };
 
-    ghost bracketing = { chosen_bracketing };
+    ghost bracketing = { elim [
+      | And ↦ and_bracketing
+      | Or ↦ or_bracketing
+      | Max ↦ λ x y z. omega arith
+      | Add ↦ add_bracketing
+    ] };
 
-    ghost order = { chosen_order };
+    ghost order = { elim [
+      | And ↦ and_comm
+      | Or ↦ or_comm
+      | Max ↦ λ x y. omega arith
+      | Add ↦ λ x y. omega arith
+    ] };
 
     fn join(&self, x: u32, y: u32) -> u32 {
         match *self {

@@ -1,2 +1,0 @@
-mod Performing
-mod Repeating

@@ -1,1 +1,1 @@
-pub mod Performed
+pub mod Halls

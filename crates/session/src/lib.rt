@@ -1,6 +1,12 @@
-// A script as it comes in: its lines carried out one after another, and their answers written.
+// A script as it is carried out: the hall that its lines make, and their answers.
 #![tactic(auto)]
 
+mod hall;
+mod memories;
+mod movers;
+mod programs;
+mod refused;
 pub mod script;
 pub mod session;
-mod written;
+mod shown;
+mod turned;

@@ -1,4 +1,4 @@
-ghost use Rattle.dispatch.specs.Halls.{HallSound};
+ghost use Rattle.session.specs.Halls.{HallSound};
 
 use crate::session::Session;
 use commands::trouble::Trouble;

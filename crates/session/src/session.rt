@@ -1,13 +1,9 @@
-ghost use Rattle.std.specs.Prelude.{◌≡◌};
-ghost use Rattle.dispatch.specs.Halls.{HallSound};
-ghost use Rattle.session.specs.Performed.{Answers, Spares};
-ghost use Rattle.dispatch.specs.declared.hall.Hall.TheVariants.{Empty};
+ghost use Rattle.session.specs.Halls.{HallSound};
 
-use crate::written::perform;
+use crate::hall::Hall;
+use crate::programs;
 use commands::command::Command;
 use commands::trouble::Trouble;
-use dispatch::hall::Hall;
-use pile::piles::Pile;
 use reading::fields::passed_over;
 use std::alloc::Global;
 use std::io::Write;
@@ -16,13 +12,12 @@ use std::io::Write;
 #[derive(Drop)]
 pub struct Session {
     heap: Global,
-    hall: Hall<Pile>,
+    hall: Hall,
 }
 
 impl Session {
     pub fn new(heap: Global) -> Session
-        ensures sound { HallSound result.hall }
-        ensures empty { result.hall ≡ Empty }
+        ensures { HallSound result.hall }
     {
         Session {
             heap,
@@ -30,17 +25,23 @@ impl Session {
         }
     }
 
-    // Carries out one line and writes its answer. A line that is passed over has none, and a bad line changes nothing.
+    // Carries out one line and writes its answer. A line that is passed over has none.
     pub fn answer<W: Write>(&mut self, line: &[u8], out: &mut W) -> Result<(), Trouble>
         requires { HallSound self.old.hall }
-        ensures sound { HallSound self.new.hall }
-        ensures answers { Answers line.now result self.old.hall self.new.hall }
-        ensures spares { Spares result self.old.hall self.new.hall }
+        ensures { HallSound self.new.hall }
     {
         if passed_over(line) {
             return Ok(());
         }
-        let command = Command::read(self.heap, line)?;
-        perform(&mut self.hall, command, out)
+        match Command::read(self.heap, line)? {
+            Command::Programs(command) => {
+                programs::carry_out(command, out)?;
+                Ok(())
+            }
+            Command::MakeMemory(plan) => self.hall.make(plan, out),
+            Command::Memory(command) => self.hall.ask(command, out),
+            Command::MakeMover => self.hall.hand_over(out),
+            Command::Mover(command) => self.hall.call(command, out),
+        }
     }
 }

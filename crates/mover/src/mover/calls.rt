@@ -4,10 +4,9 @@ ghost use Rattle.machine.specs.Steps.{done_or, given_or, word_or};
 ghost use Rattle.machine.specs.Steps as call;
 ghost use Rattle.machine.specs.declared.answer.Answer.TheVariants as answer;
 ghost use Rattle.mover.specs.Meaning.{mean, MoverSound};
-ghost use Rattle.machine.specs.Told.{PutTold, FillTold, ReserveTold, ReleaseTold, StatusTold};
+ghost use Rattle.mover.specs.Told.{PutTold, FillTold, ReserveTold, ReleaseTold, StatusTold};
 
 use crate::mover::Mover;
-use channels::calls;
 use machine::answer::Turned;
 use machine::fault::ChannelFault;
 use memory::interface::HallMemory;
@@ -24,7 +23,7 @@ impl<M: HallMemory> Mover<M> {
         ensures keeps { Keeps call.reserve (given_or result) (mean self.old) (M.HallMemory.view self.old.memory) (mean self.new) (M.HallMemory.view self.new.memory) }
         ensures told { ReserveTold result (mean self.old) (mean self.new) }
     {
-        calls::reserve(&mut self.state)
+        self.reserve_step()
     }
 
     // Frees a channel and clears its record; its window stays.
@@ -34,7 +33,7 @@ impl<M: HallMemory> Mover<M> {
         ensures keeps { Keeps (call.release channel) (done_or result) (mean self.old) (M.HallMemory.view self.old.memory) (mean self.new) (M.HallMemory.view self.new.memory) }
         ensures told { ReleaseTold channel result (mean self.old) (mean self.new) }
     {
-        calls::release(&mut self.state, channel)
+        self.release_step(channel)
     }
 
     // Writes one place.
@@ -44,7 +43,7 @@ impl<M: HallMemory> Mover<M> {
         ensures keeps { Keeps (call.put channel place word) (done_or result) (mean self.old) (M.HallMemory.view self.old.memory) (mean self.new) (M.HallMemory.view self.new.memory) }
         ensures told { PutTold channel place word result (mean self.old) (mean self.new) }
     {
-        calls::put(&mut self.state, channel, place, word)
+        self.put_step(channel, place, word)
     }
 
     // Puts the words of a sheet into its places.
@@ -54,7 +53,7 @@ impl<M: HallMemory> Mover<M> {
         ensures keeps { Keeps (call.fill channel bytes.now) (done_or result) (mean self.old) (M.HallMemory.view self.old.memory) (mean self.new) (M.HallMemory.view self.new.memory) }
         ensures told { FillTold channel bytes.now result (mean self.old) (mean self.new) }
     {
-        calls::fill(&mut self.state, channel, bytes)
+        self.fill_step(channel, bytes)
     }
 
     // Reads a program and sets the channel running.
@@ -63,7 +62,7 @@ impl<M: HallMemory> Mover<M> {
         ensures sound { MoverSound M.HallMemory self.new }
         ensures keeps { Keeps (call.start channel words) (done_or result) (mean self.old) (M.HallMemory.view self.old.memory) (mean self.new) (M.HallMemory.view self.new.memory) }
     {
-        calls::start(&mut self.state, channel, words)
+        self.start_step(channel, words)
     }
 
     // Marks a running channel; a second stop adds nothing.
@@ -72,7 +71,7 @@ impl<M: HallMemory> Mover<M> {
         ensures sound { MoverSound M.HallMemory self.new }
         ensures keeps { Keeps (call.stop channel) (done_or result) (mean self.old) (M.HallMemory.view self.old.memory) (mean self.new) (M.HallMemory.view self.new.memory) }
     {
-        calls::stop(&mut self.state, channel)
+        self.stop_step(channel)
     }
 
     // Sets the quiet mark.
@@ -81,7 +80,7 @@ impl<M: HallMemory> Mover<M> {
         ensures sound { MoverSound M.HallMemory self.new }
         ensures keeps { Keeps call.quiet answer.Done (mean self.old) (M.HallMemory.view self.old.memory) (mean self.new) (M.HallMemory.view self.new.memory) }
     {
-        calls::quiet(&mut self.state)
+        self.quiet_step()
     }
 
     // Clears the quiet mark.
@@ -90,7 +89,7 @@ impl<M: HallMemory> Mover<M> {
         ensures sound { MoverSound M.HallMemory self.new }
         ensures keeps { Keeps call.wake answer.Done (mean self.old) (M.HallMemory.view self.old.memory) (mean self.new) (M.HallMemory.view self.new.memory) }
     {
-        calls::wake(&mut self.state)
+        self.wake_step()
     }
 
     // Tells one place.
@@ -98,7 +97,7 @@ impl<M: HallMemory> Mover<M> {
         requires { MoverSound M.HallMemory self.now }
         ensures { Keeps (call.look channel place) (word_or result) (mean self.now) (M.HallMemory.view self.now.memory) (mean self.now) (M.HallMemory.view self.now.memory) }
     {
-        calls::look(&self.state, channel, place)
+        self.look_step(channel, place)
     }
 
     // Tells the status word of a channel, reserved or not.
@@ -107,7 +106,7 @@ impl<M: HallMemory> Mover<M> {
         ensures keeps { Keeps (call.status channel) (word_or result) (mean self.now) (M.HallMemory.view self.now.memory) (mean self.now) (M.HallMemory.view self.now.memory) }
         ensures told { (w : ℕ) → result ≡ Ok w → StatusTold (mean self.now) channel w }
     {
-        calls::status(&self.state, channel)
+        self.status_step(channel)
     }
 
     // Landing, and then service.

@@ -1,6 +1,6 @@
-use Rattle.std.proofs.Common.{◌≡◌, ◌+◌, sym, ap, ◌∙◌, arith}
+use Rattle.std.proofs.Common.{◌+◌, sym, ap, ◌∙◌, arith}
 use Rattle.numbers.specs.declared.place.Place.{Place}
-use Rattle.program.specs.Pieces.{Span, from_to, first_piece}
+use Rattle.program.specs.Pieces.{from_to, first_piece}
 use Rattle.program.proofs.Ordered.{range_of_is, range_backward}
 use Rattle.mover.proofs.pieces.next_piece.Goals as goal
 

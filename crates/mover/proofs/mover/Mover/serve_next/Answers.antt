@@ -1,13 +1,12 @@
-use Rattle.std.proofs.Common.{◌≡◌, ℕ, ◌+◌, ◌-◌, ◌≤◌, length, Option, sym, refl, ap, ◌∙◌, subst, arith, rules}
-use Rattle.memory.specs.Views.{View}
+use Rattle.std.proofs.Common.{◌≡◌, ◌+◌, ◌-◌, ◌≤◌, length, Option, sym, ap, ◌∙◌, subst, rules}
 use Rattle.numbers.specs.declared.channel.Channel.{Channel}
-use Rattle.program.specs.Pieces.{Span, span}
+use Rattle.program.specs.Pieces.{Span}
 use Rattle.machine.specs.Means.{record_of}
-use Rattle.machine.specs.Turns.{SentAll, requests_from, requests, requested, served, service, next_piece, piece_length, serviced}
+use Rattle.machine.specs.Turns.{SentAll, requests_from, requests, requested, served, service, next_piece, piece_length}
 use Rattle.machine.specs.declared.answer.Service.TheVariants.{Sent}
 use Rattle.mover.specs.Meaning.{mean}
 use Rattle.mover.proofs.Halfway.{served_sound}
-use Rattle.machine.proofs.Next.{next}
+use Rattle.mover.proofs.Next.{next}
 use Rattle.mover.proofs.mover.Mover.serve_next.Goals as goal
 
 pub send_piece-requires : goal.send_piece-requires

@@ -1,4 +1,4 @@
-use Rattle.dispatch.specs.Halls.{HallSound}
+use Rattle.session.specs.Halls.{HallSound}
 use Rattle.session.proofs.script.Script.take.Given as goal
 
 -- every line leaves the hall sound

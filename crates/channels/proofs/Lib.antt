@@ -1,4 +1,0 @@
-pub mod Finding
-pub mod Fresh
-pub mod Keeping
-pub mod Starting

@@ -1,3 +1,0 @@
-pub mod Checks
-pub mod Standing
-pub mod Status
