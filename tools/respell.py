@@ -66,7 +66,7 @@ def respelled(name):
 
 
 def own_crates():
-    return {os.path.basename(os.path.join("crates", c)) for c in os.listdir("crates")}
+    return set(os.listdir("crates"))
 
 
 def declared():
@@ -113,6 +113,8 @@ def table():
 
 
 def main(argv):
+    if argv not in ([], ["--list"]) or not os.path.isdir("crates"):
+        sys.exit(__doc__)
     changed = table()
     if argv == ["--list"]:
         for old, new in sorted(changed.items()):
