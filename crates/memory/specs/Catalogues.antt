@@ -63,10 +63,6 @@ catalogue_check es = cond (nat_lt (length es) 1 || nat_lt 256 (length es)) (Err 
 abbrev pub view_of : Catalogue → View
 view_of m = record { cell = entry_word (vec_items m.entries); transit = items m.transit; wait = m.wait }
 
--- the meaning of a catalogue of these entries
-abbrev pub catalogue_view : List Entry → List (Option ℕ) → ℕ → View
-catalogue_view entries transit wait = record { cell = entry_word entries; transit = transit; wait = wait }
-
 -- the wait of a reply that becomes the first one; 0 where none is left
 abbrev pub wait_for : List (Option ℕ) → ℕ
 wait_for [] = 0

@@ -1,5 +1,5 @@
 ghost use Rattle.std.specs.Prelude.{◌≡◌, ◌<◌, List, [], length, Ok};
-ghost use Rattle.memory.specs.Catalogues.{cell_of, catalogue_check, catalogue_view, view_of, wait_left, entry_index, acted, Found, room_for, with_reply, wait_with, CatalogueSound};
+ghost use Rattle.memory.specs.Catalogues.{cell_of, catalogue_check, view_of, wait_left, entry_index, acted, Found, room_for, with_reply, wait_with, CatalogueSound};
 ghost use Rattle.memory.specs.Effects.{Sends, Takes};
 ghost use Rattle.queue.specs.Queues.{items};
 ghost use Rattle.std.proofs.Common.{rules};
@@ -66,7 +66,6 @@ impl Catalogue {
         requires { catalogue_check entries.items ≡ Ok tt }
         ensures sound { CatalogueSound result }
         ensures view { (result.entries.items ≡ entries.items) × (items result.transit ≡ []) × (result.wait ≡ 0) }
-        ensures meaning { view_of result ≡ catalogue_view entries.items [] 0 }
     {
         Catalogue {
             entries,

@@ -1,6 +1,6 @@
 -- What a plan makes, or the refusal that it meets: inner memories come before outer ones and the left one before the right one.
 use Rattle.std.specs.Prelude.{◌≡◌, ℕ, List, [], Ok, Err, vec_items, Result}
-use Rattle.memory.specs.Catalogues.{catalogue_check, catalogue_view}
+use Rattle.memory.specs.Catalogues.{catalogue_check, entry_word}
 use Rattle.memory.specs.Flats.{flat_check, flat_view}
 use Rattle.memory.specs.Views.{View}
 use Rattle.memory.specs.declared.catalogue.Entry.{Entry}
@@ -31,8 +31,11 @@ over (Err fault) layer = Err fault
 abbrev pub flat_planned : List ℕ → Planned
 flat_planned words = checked (flat_check words) (flat_view words [])
 
+abbrev pub new_catalogue : List Entry → View
+new_catalogue entries = record { cell = entry_word entries; transit = []; wait = 0 }
+
 abbrev pub catalogue_planned : List Entry → Planned
-catalogue_planned entries = checked (catalogue_check entries) (catalogue_view entries [] 0)
+catalogue_planned entries = checked (catalogue_check entries) (new_catalogue entries)
 
 abbrev pub router_planned : ℕ → View → View → Planned
 router_planned bit left right = checked (router_check left right bit) (router_view bit [] left right)

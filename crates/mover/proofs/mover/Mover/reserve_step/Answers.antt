@@ -11,55 +11,48 @@ use Rattle.mover.specs.Meaning.{mean}
 use Rattle.mover.proofs.Keeping.{kept_by}
 use Rattle.mover.proofs.mover.Mover.reserve_step.Goals as goal
 
--- the lowest free channel is the one that is given
-given : (m : Mean) (c : Channel) → Some c ≡ option_map to_channel (lowest_free m.records) → Ok c ≡ reserve_answer m
-given m c found = go (lowest_free m.records) refl found
-  where
-    go : (o : Option ℕ) → lowest_free m.records ≡ o → Some c ≡ option_map to_channel o → Ok c ≡ reserve_answer m
-    go None is e = absurd cc
-    go (Some n) is e = rw (is, reserve_answer) cc
+found_is : (c : Channel) (o : Option ℕ) → Some c ≡ option_map to_channel o → o ≡ Some c.0
+found_is c None e = absurd cc
+found_is c (Some n) e = cc
 
--- and its record is cleared
-opened : (m : Mean) (c : Channel) (r : Record) → Some c ≡ option_map to_channel (lowest_free m.records) → r ≡ cleared true empty_window → with_record m c.0 r ≡ reserve_state m
-opened m c r found clear = go (lowest_free m.records) refl found
-  where
-    go : (o : Option ℕ) → lowest_free m.records ≡ o → Some c ≡ option_map to_channel o → with_record m c.0 r ≡ reserve_state m
-    go None is e = absurd cc
-    go (Some n) is e = rw (is, reserve_state) (let same : c.0 ≡ n = cc in rw (same, clear) refl)
+none_is : (o : Option ℕ) → None ≡ option_map to_channel o → o ≡ None
+none_is None e = refl
+none_is (Some n) e = absurd cc
 
--- where no channel is free, that is the answer, and nothing changes
-module _ (m : Mean) (none : None ≡ option_map to_channel (lowest_free m.records)) where
-  not_given : Err NoneFree ≡ reserve_answer m
-  not_given = go (lowest_free m.records) refl none
-    where
-      go : (o : Option ℕ) → lowest_free m.records ≡ o → None ≡ option_map to_channel o → Err NoneFree ≡ reserve_answer m
-      go None is e = rw (is, reserve_answer) refl
-      go (Some n) is e = absurd cc
+module _ (m : Mean) where
+  -- the lowest free channel is given, and its record is cleared
+  given : (c : Channel) → lowest_free m.records ≡ Some c.0 → Ok c ≡ reserve_answer m
+  given c is = rw (is, reserve_answer) refl
 
-  not_opened : m ≡ reserve_state m
-  not_opened = go (lowest_free m.records) refl none
-    where
-      go : (o : Option ℕ) → lowest_free m.records ≡ o → None ≡ option_map to_channel o → m ≡ reserve_state m
-      go None is e = rw (is, reserve_state) refl
-      go (Some n) is e = absurd cc
+  opened : (c : Channel) (r : Record) → lowest_free m.records ≡ Some c.0 → r ≡ cleared true empty_window → with_record m c.0 r ≡ reserve_state m
+  opened c r is clear = rw (is, reserve_state, clear) refl
+
+  -- where no channel is free, that is the answer, and nothing changes
+  not_given : lowest_free m.records ≡ None → Err NoneFree ≡ reserve_answer m
+  not_given is = rw (is, reserve_answer) refl
+
+  not_opened : lowest_free m.records ≡ None → m ≡ reserve_state m
+  not_opened is = rw (is, reserve_state) refl
 
 pub returns : goal.returns
 returns g c =
     let m = mean c.args.self.now in
+    let free = found_is c.in-Some.channel _ c.in-Some.ensures.value in
     record {
       sound = kept_by g.M.HallMemory c.args.self.now _ (reserve_state m) c.requires refl (record { singles = c.requires.lines.singles; blocks = c.requires.lines.blocks; flight = c.requires.lines.flight })
-          (opened m c.in-Some.channel _ c.in-Some.ensures.value (search rules)) (sound_reserve m _ c.requires.state);
-      answer = given m c.in-Some.channel c.in-Some.ensures.value;
-      state = opened m c.in-Some.channel _ c.in-Some.ensures.value (search rules);
+          (opened m c.in-Some.channel _ free (search rules)) (sound_reserve m _ c.requires.state);
+      answer = given m c.in-Some.channel free;
+      state = opened m c.in-Some.channel _ free (search rules);
       memory = search rules;
     }
 
 pub returns-in_default : goal.returns-in_default
 returns-in_default g c =
-    let none = c.in_default.ensures.value in
+    let m = mean c.args.self.now in
+    let none = none_is _ c.in_default.ensures.value in
     record {
       sound = c.requires;
-      answer = not_given (mean c.args.self.now) none;
-      state = not_opened (mean c.args.self.now) none;
+      answer = not_given m none;
+      state = not_opened m none;
       memory = refl;
     }
