@@ -5,7 +5,7 @@
 #[cfg(test)]
 mod tests;
 
-ghost use Rattle.session.specs.Halls.{HallSound};
+ghost use Rattle.dispatch.specs.Halls.{HallSound};
 
 use session::script::Script;
 use std::io;

@@ -6,6 +6,7 @@ use Rattle.machine.specs.Means.{Mean}
 use Rattle.machine.specs.Soundness.{new_mean}
 use Rattle.machine.specs.Steps.{Call, Step, History, Run, begin, next, seen}
 use Rattle.machine.specs.declared.answer.Answer.{Answer}
+use Rattle.machine.proofs.Holding.{allotted}
 use Rattle.machine.proofs.KeptCalls.{sound_new}
 use Rattle.machine.proofs.KeptSteps.{sound_step}
 use Rattle.machine.proofs.Linked as links
@@ -43,6 +44,7 @@ lawful cells h m v nothing run =
       traced = trace.traced grounds run nothing;
       summed = summed cells (sound cells nothing) run;
       bounded = turns.bounded cells nothing (sound_new cells nothing) sound_step (turn_links cells nothing) run;
+      allotted = allotted cells (sound cells nothing) run;
     }
 
 pub keeps : (call : Call) (a : Answer) (m : Mean) (v : View) (n : Mean) (w : View) → Step call a m v n w → Keeps call a m v n w

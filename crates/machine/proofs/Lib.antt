@@ -1,3 +1,4 @@
+pub mod Holding
 pub mod KeptCalls
 pub mod KeptChannels
 pub mod KeptCounts
@@ -8,7 +9,13 @@ pub mod KeptSteps
 pub mod Lawful
 pub mod Linked
 pub mod Moved
+pub mod Next
+pub mod Oldest
+pub mod Orders
+pub mod Sending
+pub mod Stepping
 pub mod Summing
+pub mod Telling
 pub mod TraceAlone
 pub mod TraceCalls
 pub mod TraceLinks

@@ -11,7 +11,7 @@ use Rattle.program.specs.declared.fault.ProgramFault.{ProgramFault}
 use Rattle.program.specs.declared.kind.Program.{Program}
 use Rattle.program.specs.declared.layout.Words.{Words}
 use Rattle.machine.specs.Calls.{Refused, unless_refused, check_channel, check_program, check_reserved, check_resting, empty_refused, lowest_free, empty_window, release_refused, release_state, put_refused, put_state, fill_refused, fill_state, look_answer, stored, started, start_program, stop_refused, stop_state, status_answer}
-use Rattle.machine.specs.Histories.{now_seen, accepted, program_of, start_of, starts_on, starts, Starts, Begun, begun_by, begun, given_to, resets, sent_in, sent_count, landed_in, landed_by, landed_count, sent_by, stops_by, stopped, touches_by, touched}
+use Rattle.machine.specs.Histories.{now_seen, accepted, program_of, start_of, starts_on, starts, Starts, Begun, begun_by, begun, given_to, resets, releases_by, held, sent_in, sent_count, landed_in, landed_by, landed_count, sent_by, stops_by, stopped, touches_by, touched}
 use Rattle.machine.specs.Laws.{tells, word_of, word_told}
 use Rattle.machine.specs.Means.{Mean, Window, record_of, with_record, with_quiet, cleared, absent}
 use Rattle.machine.specs.Soundness.{new_mean, Sound}
@@ -46,6 +46,7 @@ pub record Untouched (c : ℕ) (b : Begun) (r : Record) : Type 0 where
 pub record Link (c : ℕ) (h : History) (r : Record) : Type 0 where
   pub sent : r.counts.sent ≡ sent_count c h
   pub landed : r.counts.landed ≡ landed_count c h
+  pub reserved : r.flags.reserved ≡ held c h
   pub stop : r.flags.running ≡ true → r.flags.stop ≡ stopped c h
   pub begins : r.flags.running ≡ true → (b : Begun) × (begun c h ≡ Some b) × (touched c h ≡ false)
   pub alone : (b : Begun) → begun c h ≡ Some b → touched c h ≡ false → Untouched c b r
@@ -64,6 +65,8 @@ record Beside (c : ℕ) (e : Event) : Type 0 where
   touch : touches_by c e.call e.answer ≡ false
   sent : sent_in c e.answer ≡ 0
   landed : landed_in c e.answer ≡ 0
+  given : given_to c e.answer ≡ false
+  release : releases_by c e.call e.answer ≡ false
 
 begun_kept : (c : ℕ) (o : Option Starts) (s : Seen) (before : Option Begun) → starts_on c o ≡ false → begun_by c o s before ≡ before
 begun_kept c None s before none = refl
@@ -76,6 +79,7 @@ link_beside c e h r aside link =
     record {
       sent = link.sent ∙ sym (cond-false _ _ _ aside.reset ∙ omega (arith, aside.sent));
       landed = link.landed ∙ sym (cond-false _ _ _ aside.reset ∙ omega (arith, aside.landed));
+      reserved = link.reserved ∙ sym (cond-false _ _ _ aside.given ∙ cond-false _ _ _ aside.release);
       stop = λ running. link.stop running ∙ sym (cond-false _ _ _ aside.start ∙ cond-false _ _ _ aside.stop);
       begins = λ running. let was = link.begins running in (was.0, same ∙ was.1, still ∙ was.2);
       alone = λ b is left. link.alone b (sym same ∙ is) (sym still ∙ left);
@@ -83,20 +87,20 @@ link_beside c e h r aside link =
 
 -- CALLS
 
--- an answer of no turn
-abbrev Plain : Answer → Type 0
-Plain (answer.Refused f) = Unit {0}
-Plain answer.Done = Unit {0}
-Plain (answer.Given c) = Unit {0}
-Plain (answer.Word w) = Unit {0}
-Plain (answer.Turned t) = ⊥
+-- an answer of no turn that does not give the channel
+abbrev Plain : ℕ → Answer → Type 0
+Plain c (answer.Refused f) = Unit {0}
+Plain c answer.Done = Unit {0}
+Plain c (answer.Given d) = eqb d.0 c ≡ false
+Plain c (answer.Word w) = Unit {0}
+Plain c (answer.Turned t) = ⊥
 
-plain_counts : (c : ℕ) (a : Answer) → Plain a → (sent_in c a ≡ 0) × (landed_in c a ≡ 0)
-plain_counts c (answer.Refused f) plain = (refl, refl)
-plain_counts c answer.Done plain = (refl, refl)
-plain_counts c (answer.Given d) plain = (refl, refl)
-plain_counts c (answer.Word w) plain = (refl, refl)
-plain_counts c (answer.Turned t) plain = absurd plain
+plain_answer : (c : ℕ) (a : Answer) → Plain c a → (sent_in c a ≡ 0) × (landed_in c a ≡ 0) × (given_to c a ≡ false)
+plain_answer c (answer.Refused f) plain = (refl, refl, refl)
+plain_answer c answer.Done plain = (refl, refl, refl)
+plain_answer c (answer.Given d) plain = (refl, refl, plain)
+plain_answer c (answer.Word w) plain = (refl, refl, refl)
+plain_answer c (answer.Turned t) plain = absurd plain
 
 -- the call was refused, or concerns another channel
 abbrev Elsewhere : Call → ℕ → Answer → Type 0
@@ -118,21 +122,21 @@ no_start c d None false other = refl
 no_start c d (Some q) true other = grind (arith, tests)
 no_start c d (Some q) false other = refl
 
-beside : (call : Call) (c : ℕ) (a : Answer) (s : Seen) → Plain a → Elsewhere call c a → Beside c (record { call = call; answer = a; after = s })
-beside call c a s plain other = go call (plain_counts c a plain).0 (plain_counts c a plain).1 other
+beside : (call : Call) (c : ℕ) (a : Answer) (s : Seen) → Plain c a → Elsewhere call c a → Beside c (record { call = call; answer = a; after = s })
+beside call c a s plain other = go call (plain_answer c a plain).0 (plain_answer c a plain).1 (plain_answer c a plain).2 other
   where
-    go : (call : Call) → sent_in c a ≡ 0 → landed_in c a ≡ 0 → Elsewhere call c a → Beside c (record { call = call; answer = a; after = s })
-    go reserve n l other = record { reset = other; start = refl; stop = refl; touch = refl; sent = n; landed = l }
-    go (release d) n l other = record { reset = other; start = refl; stop = refl; touch = other; sent = n; landed = l }
-    go (put d p w) n l other = record { reset = refl; start = refl; stop = refl; touch = other; sent = n; landed = l }
-    go (fill d bytes) n l other = record { reset = refl; start = refl; stop = refl; touch = other; sent = n; landed = l }
-    go (start d w) n l other = record { reset = other; start = no_start c d (program_of w) (accepted a) other; stop = refl; touch = refl; sent = n; landed = l }
-    go (stop d) n l other = record { reset = refl; start = refl; stop = other; touch = refl; sent = n; landed = l }
-    go quiet n l other = record { reset = refl; start = refl; stop = refl; touch = refl; sent = n; landed = l }
-    go wake n l other = record { reset = refl; start = refl; stop = refl; touch = refl; sent = n; landed = l }
-    go (look d p) n l other = record { reset = refl; start = refl; stop = refl; touch = refl; sent = n; landed = l }
-    go (status d) n l other = record { reset = refl; start = refl; stop = refl; touch = refl; sent = n; landed = l }
-    go turn n l other = record { reset = refl; start = refl; stop = refl; touch = refl; sent = n; landed = l }
+    go : (call : Call) → sent_in c a ≡ 0 → landed_in c a ≡ 0 → given_to c a ≡ false → Elsewhere call c a → Beside c (record { call = call; answer = a; after = s })
+    go reserve n l g other = record { reset = other; start = refl; stop = refl; touch = refl; sent = n; landed = l; given = g; release = refl }
+    go (release d) n l g other = record { reset = other; start = refl; stop = refl; touch = other; sent = n; landed = l; given = g; release = other }
+    go (put d p w) n l g other = record { reset = refl; start = refl; stop = refl; touch = other; sent = n; landed = l; given = g; release = refl }
+    go (fill d bytes) n l g other = record { reset = refl; start = refl; stop = refl; touch = other; sent = n; landed = l; given = g; release = refl }
+    go (start d w) n l g other = record { reset = other; start = no_start c d (program_of w) (accepted a) other; stop = refl; touch = refl; sent = n; landed = l; given = g; release = refl }
+    go (stop d) n l g other = record { reset = refl; start = refl; stop = other; touch = refl; sent = n; landed = l; given = g; release = refl }
+    go quiet n l g other = record { reset = refl; start = refl; stop = refl; touch = refl; sent = n; landed = l; given = g; release = refl }
+    go wake n l g other = record { reset = refl; start = refl; stop = refl; touch = refl; sent = n; landed = l; given = g; release = refl }
+    go (look d p) n l g other = record { reset = refl; start = refl; stop = refl; touch = refl; sent = n; landed = l; given = g; release = refl }
+    go (status d) n l g other = record { reset = refl; start = refl; stop = refl; touch = refl; sent = n; landed = l; given = g; release = refl }
+    go turn n l g other = record { reset = refl; start = refl; stop = refl; touch = refl; sent = n; landed = l; given = g; release = refl }
 
 -- a call on the channel d that changes its record to r, unless it is refused
 link_change : (call : Call) (c d : ℕ) (h : History) (m n : Mean) (r : Record) (s : Seen) (o : Refused) → n.records ≡ set m.records d r → c < length m.records
@@ -150,11 +154,12 @@ link_change call c d h m n r s None set_is within other here link =
 
 -- a put, fill or release was accepted, and the channel rests
 link_touch : (c : ℕ) (e : Event) (h : History) (r : Record) → starts_on c (starts e) ≡ false → touches_by c e.call e.answer ≡ true → r.flags.running ≡ false
-    → r.counts.sent ≡ sent_count c (e ∷ h) → r.counts.landed ≡ landed_count c (e ∷ h) → Link c (e ∷ h) r
-link_touch c e h r none touches rests sent landed =
+    → r.counts.sent ≡ sent_count c (e ∷ h) → r.counts.landed ≡ landed_count c (e ∷ h) → r.flags.reserved ≡ held c (e ∷ h) → Link c (e ∷ h) r
+link_touch c e h r none touches rests sent landed reserved =
     record {
       sent = sent;
       landed = landed;
+      reserved = reserved;
       stop = λ running. no (sym rests ∙ running);
       begins = λ running. no (sym rests ∙ running);
       alone = λ b is left. no (sym left ∙ cond-false _ _ _ none ∙ cond-true _ _ _ touches);
@@ -177,7 +182,8 @@ link_release : (c d : ℕ) (h : History) (m : Mean) (s : Seen) → c < length m.
     → Link c (record { call = release d; answer = done_unless (release_refused m d); after = s } ∷ h) (record_of (unless_refused (release_refused m d) m (release_state m d)) c)
 link_release c d h m s within link =
     link_change (release d) c d h m (release_state m d) (cleared false (record_of m d).window) s (release_refused m d) refl within (λ x e. e)
-    (λ none same. link_touch c _ h _ refl (accepted_here c d same) refl (sym (cond-true _ _ _ (accepted_here c d same))) (sym (cond-true _ _ _ (accepted_here c d same))))
+    (λ none same. let set_back = accepted_here c d same in
+    link_touch c _ h _ refl set_back refl (sym (cond-true _ _ _ set_back)) (sym (cond-true _ _ _ set_back)) (sym (cond-true _ _ _ set_back)))
     link
 
 link_put : (c d p w : ℕ) (h : History) (m : Mean) (s : Seen) → c < length m.records → Link c h (record_of m c)
@@ -185,7 +191,7 @@ link_put : (c d p w : ℕ) (h : History) (m : Mean) (s : Seen) → c < length m.
 link_put c d p w h m s within link =
     link_change (put d p w) c d h m (put_state m d p w) _ s (put_refused m d p) refl within (λ x e. e)
     (λ none same. let was = link_at c d h m same link in
-    link_touch c _ h _ refl (accepted_here c d same) (put_rests m d p none) (omega (arith, was.sent)) (omega (arith, was.landed)))
+    link_touch c _ h _ refl (accepted_here c d same) (put_rests m d p none) (omega (arith, was.sent)) (omega (arith, was.landed)) was.reserved)
     link
 
 link_fill : (c d : ℕ) (bytes : List ℕ) (h : History) (m : Mean) (s : Seen) → c < length m.records → Link c h (record_of m c)
@@ -193,7 +199,7 @@ link_fill : (c d : ℕ) (bytes : List ℕ) (h : History) (m : Mean) (s : Seen) �
 link_fill c d bytes h m s within link =
     link_change (fill d bytes) c d h m (fill_state m d bytes) _ s (fill_refused m d bytes) refl within (λ x e. e)
     (λ none same. let was = link_at c d h m same link in
-    link_touch c _ h _ refl (accepted_here c d same) (fill_rests m d bytes none) (omega (arith, was.sent)) (omega (arith, was.landed)))
+    link_touch c _ h _ refl (accepted_here c d same) (fill_rests m d bytes none) (omega (arith, was.sent)) (omega (arith, was.landed)) was.reserved)
     link
 
 link_stop : (c d : ℕ) (h : History) (m : Mean) (s : Seen) → c < length m.records → Link c h (record_of m c)
@@ -204,6 +210,7 @@ link_stop c d h m s within link =
     record {
       sent = omega (arith, was.sent);
       landed = omega (arith, was.landed);
+      reserved = was.reserved;
       stop = λ running. sym (cond-true _ _ _ (accepted_here c d same));
       begins = was.begins;
       alone = λ b is left. let old = was.alone b is left in record { program = old.program; reserved = old.reserved; places = old.places };
@@ -226,10 +233,13 @@ program_in x = elim x [ Ok p ↦ Some (stored p) | Err f ↦ None ]
 bad_start : (m : Mean) (d : ℕ) (f : ProgramFault) → start_checked m d (Err f) ≡ None → ⊥
 bad_start m d f none = grind (arith, tests)
 
+start_reserved : (m : Mean) (d : ℕ) (p : Program) → start_checked m d (Ok p) ≡ None → (record_of m d).flags.reserved ≡ true
+start_reserved m d p none = grind (arith, tests)
+
 -- an accepted start of the channel
-link_started : (c d : ℕ) (w : Words) (q : Stored) (h : History) (window : Window) (s : Seen) → program_of w ≡ Some q → d ≡ c
+link_started : (c d : ℕ) (w : Words) (q : Stored) (h : History) (window : Window) (s : Seen) → program_of w ≡ Some q → d ≡ c → held c h ≡ true
     → ((p : ℕ) → look_in c (started q window) p ≡ s.look c p) → Link c (record { call = start d w; answer = answer.Done; after = s } ∷ h) (started q window)
-link_started c d w q h window s says same sees =
+link_started c d w q h window s says same holds sees =
     let begins : begun c (record { call = start d w; answer = answer.Done; after = s } ∷ h) ≡ Some (record { program = q; at = s }) =
     ap (λ (x : Option Stored). begun_by c (start_of d x) s (begun c h)) says ∙ cond-true _ _ _ (eq-eqb d c same) in
     let starting : starts_on c (start_of d (program_of w)) ≡ true = ap (λ (x : Option Stored). starts_on c (start_of d x)) says ∙ eq-eqb d c same in
@@ -237,6 +247,7 @@ link_started c d w q h window s says same sees =
     record {
       sent = sym (cond-true _ _ _ resetting);
       landed = sym (cond-true _ _ _ resetting);
+      reserved = sym holds;
       stop = λ running. sym (cond-true _ _ _ starting);
       begins = λ running. (record { program = q; at = s }, begins, cond-true _ _ _ starting);
       alone = λ b is left.
@@ -250,6 +261,7 @@ link_start : (c d : ℕ) (w : Words) (h : History) (m : Mean) (v : View) (x : Re
 link_start c d w h m v (Ok p) reads within link =
     link_change (start d w) c d h m (start_program m d (stored p)) (started (stored p) (record_of m d).window) _ (start_checked m d (Ok p)) refl within (λ x e. e)
     (λ none same. link_started c d w (stored p) h (record_of m d).window _ (ap program_in reads) same
+    (sym (link_at c d h m same link).reserved ∙ start_reserved m d p none)
     (λ k. sym (ap (λ (o : Refused). look_answer (unless_refused o m (start_program m d (stored p))) c k) none
     ∙ ap (λ (r : Record). look_in c r k) (record_here m (start_program m d (stored p)) c d _ refl within same))))
     link
@@ -292,6 +304,7 @@ link_reserved c d h window r s free same link =
     record {
       sent = sym (cond-true _ _ _ (eq-eqb d c same));
       landed = sym (cond-true _ _ _ (eq-eqb d c same));
+      reserved = sym (cond-true _ _ _ (eq-eqb d c same));
       stop = λ running. no running;
       begins = λ running. no running;
       alone = λ b is left. no (sym free ∙ (link.alone b is left).reserved);
@@ -307,7 +320,7 @@ link_reserve c h m s (Some d) is within link =
     (link_reserved c d h empty_window (record_of m d) s (lowest_free_is m.records d is) here (link_at c d h m here link)))
     (λ apart. subst (Link c (record { call = reserve; answer = answer.Given (record { 0 = d }); after = s } ∷ h))
     (sym (record_other m (with_record m d (cleared true empty_window)) c d _ refl (eqb-false d c apart)))
-    (link_beside c _ h (record_of m c) (beside reserve c (answer.Given (record { 0 = d })) s tt apart) link))
+    (link_beside c _ h (record_of m c) (beside reserve c (answer.Given (record { 0 = d })) s apart apart) link))
     (cases_Bool (eqb d c))
 
 -- TURNS
@@ -318,6 +331,7 @@ link_turn c t h r between after s lands sends link =
     record {
       sent = let was = link.sent in let a = lands.sent in let b = sends.sent in omega arith;
       landed = let was = link.landed in let a = lands.landed in let b = sends.landed in omega arith;
+      reserved = sends.reserved ∙ lands.reserved ∙ link.reserved;
       stop = λ running. sends.stop ∙ lands.stop ∙ link.stop (lands.running (sends.running running));
       begins = λ running. link.begins (lands.running (sends.running running));
       alone = λ b is left.
@@ -358,12 +372,12 @@ put_at Q a b m n same_answer same-state q = subst (λ (x : Answer). Q x m) (sym 
 abbrev LinkAfter : ℕ → History → Call → View → Answer → Mean → Type 0
 LinkAfter c h call w a n = Link c (record { call = call; answer = a; after = seen n w } ∷ h) (record_of n c)
 
-word_plain : (x : Result ℕ ChannelFault) → Plain (word_or x)
-word_plain (Ok w) = tt
-word_plain (Err f) = tt
+word_plain : (c : ℕ) (x : Result ℕ ChannelFault) → Plain c (word_or x)
+word_plain c (Ok w) = tt
+word_plain c (Err f) = tt
 
 -- a call that leaves the records alone
-link_left : (call : Call) (c : ℕ) (h : History) (m n : Mean) (w : View) (a : Answer) → n.records ≡ m.records → Plain a → Elsewhere call c a → Link c h (record_of m c) → LinkAfter c h call w a n
+link_left : (call : Call) (c : ℕ) (h : History) (m n : Mean) (w : View) (a : Answer) → n.records ≡ m.records → Plain c a → Elsewhere call c a → Link c h (record_of m c) → LinkAfter c h call w a n
 link_left call c h m n w a same plain other link =
     subst (Link c (record { call = call; answer = a; after = seen n w } ∷ h)) (ap (λ (l : List Record). get_or l c absent) (sym same))
     (link_beside c _ h (record_of m c) (beside call c a (seen n w) plain other) link)
@@ -387,9 +401,9 @@ link_step quiet c h a m n v w sound below within (ea, en, ew) link =
 link_step wake c h a m n v w sound below within (ea, en, ew) link =
     put_at (LinkAfter c h wake w) a _ n _ ea en (link_left wake c h m (with_quiet m false) w answer.Done refl tt tt link)
 link_step (look d p) c h a m n v w sound below within (ea, en, ew) link =
-    put_at (LinkAfter c h (look d p) w) a _ n _ ea en (link_left (look d p) c h m m w (word_or (look_answer m d p)) refl (word_plain (look_answer m d p)) tt link)
+    put_at (LinkAfter c h (look d p) w) a _ n _ ea en (link_left (look d p) c h m m w (word_or (look_answer m d p)) refl (word_plain c (look_answer m d p)) tt link)
 link_step (status d) c h a m n v w sound below within (ea, en, ew) link =
-    put_at (LinkAfter c h (status d) w) a _ n _ ea en (link_left (status d) c h m m w (word_or (status_answer m d)) refl (word_plain (status_answer m d)) tt link)
+    put_at (LinkAfter c h (status d) w) a _ n _ ea en (link_left (status d) c h m m w (word_or (status_answer m d)) refl (word_plain c (status_answer m d)) tt link)
 link_step turn c h a m n v w sound below within (t, ea, turns) link =
     subst (λ (x : Answer). LinkAfter c h turn w x n) (sym ea) (link_turns c t h m n v w _ sound below turns link)
 
@@ -404,6 +418,7 @@ link_new c window =
     record {
       sent = refl;
       landed = refl;
+      reserved = refl;
       stop = λ running. no running;
       begins = λ running. no running;
       alone = λ b is left. absurd (let z : ◌≡◌ {A = ℕ} 0 1 = cc in omega arith);

@@ -19,7 +19,7 @@ use Rattle.operators.specs.declared.mode.Mode.{Mode}
 use Rattle.program.specs.Pieces.{boundary}
 use Rattle.machine.specs.Calls.{Refused}
 use Rattle.machine.specs.Histories.{starts, Starts, Begun, begun_by, begun, sent_count, cell_at, Names}
-use Rattle.machine.specs.Laws.{Under, UnderBy, OnlyUnder, joins, word_of, words_from, words_of, words_by, words_in, words_sent, join_all, Summed}
+use Rattle.machine.specs.Laws.{Under, UnderBy, OnlyUnder, joins, word_of, words_from, words_of, words_by, words_in, words_sent, join_all, SameWords, Summed}
 use Rattle.machine.specs.Means.{Mean, record_of}
 use Rattle.machine.specs.Soundness.{new_mean, Sound, ChannelSound}
 use Rattle.machine.specs.Steps.{Call, reserve, release, put, fill, start, stop, quiet, wake, look, status, turn, Step, Seen, seen, History, Run, begin, next, done_unless, word_or, given_or}
@@ -34,6 +34,7 @@ use Rattle.machine.specs.declared.record.Record.{Record}
 use Rattle.machine.specs.declared.record.Stored.{Stored}
 use Rattle.machine.proofs.Linked.{Link, Linked, linked, now_seen_is, SoundRuns, word_sent_is}
 use Rattle.machine.proofs.Moved.{Landed, landed_record_is, Serves, serves}
+use Rattle.machine.proofs.Orders.{same_joined}
 
 -- JOINED WORDS
 
@@ -218,6 +219,12 @@ cell_summed opening sound a below o (next {h} {m} {n} {v} {w} {c} {a = b} run st
     ∙ ap (after o (words_in b a h)) (cell_summed opening sound a below o run only)
     ∙ after_append o (words_in b a h) (words_sent a h) (opening.cell a)
 
--- B. The cell holds its opening word joined with every word sent to it
+-- the same words in another order
+after_same : (o : Choice) (us ws : List ℕ) (x : Option ℕ) → SameWords us ws → after o us x ≡ after o ws x
+after_same o us ws None same = refl
+after_same o us ws (Some x) same = ap Some (same_joined o x us ws same)
+
+-- The cell holds its opening word joined with every word sent to it
 pub summed : (opening : View) → SoundRuns opening → {h : History} {m : Mean} {v : View} → Run new_mean opening h m v → Summed (seen new_mean opening) h
-summed opening sound run a below o only = ap (λ (s : Seen). s.cell a) (now_seen_is run) ∙ cell_summed opening sound a below o run only
+summed opening sound {h} run a below o only words same =
+    ap (λ (s : Seen). s.cell a) (now_seen_is run) ∙ cell_summed opening sound a below o run only ∙ sym (after_same o words (words_sent a h) (opening.cell a) same)

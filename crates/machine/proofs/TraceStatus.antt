@@ -4,7 +4,7 @@ use mir.Val.{bool_byte}
 use Rattle.std.specs.Option.{option_map}
 use Rattle.memory.specs.Views.{View}
 use Rattle.machine.specs.Calls.{lowest_free}
-use Rattle.machine.specs.Histories.{runs, landed_told, sent_told}
+use Rattle.machine.specs.Histories.{runs, landed_told, sent_told, reserved_told}
 use Rattle.machine.specs.Means.{Mean, record_of}
 use Rattle.machine.specs.Soundness.{Sound, ChannelSound}
 use Rattle.machine.specs.Steps.{seen}
@@ -77,13 +77,23 @@ pub landed_told_is : {m : Mean} {v : View} (c : ℕ) → c < 16 → Sound m v �
 landed_told_is {m} {v} c small sound =
     middle (low_bits m c) (record_of m c).counts.landed (record_of m c).counts.sent (low_bits_small m c sound.wide) (landed_small m c (sound.channels c small)) (sent_small m c (sound.channels c small))
 
-bit_is : (b : Bool) → b ≡ true → eqb (bool_byte b) 1 ≡ true
-bit_is true e = refl
-bit_is false e = e
+bit_tells : (b : Bool) → eqb (bool_byte b) 1 ≡ b
+bit_tells true = refl
+bit_tells false = refl
 
 pub runs_told : (m : Mean) (v : View) (c : ℕ) → (record_of m c).flags.running ≡ true → runs (seen m v) c ≡ true
 runs_told m v c running =
     ap (λ (n : ℕ). eqb n 1) (lowest (bool_byte (record_of m c).flags.running) (bool_byte (record_of m c).flags.error) (bool_byte (record_of m c).flags.stop)
     (bool_byte (record_of m c).flags.reserved) (unwrap_or (lowest_free m.records) 0) (bool_byte (not (is_some (lowest_free m.records))))
     (bool_byte m.quiet) (record_of m c).counts.landed (record_of m c).counts.sent (bit_small _))
-    ∙ bit_is _ running
+    ∙ bit_tells _ ∙ running
+
+third : (r e s v f n q l t : ℕ) → r ≤ 1 → e ≤ 1 → s ≤ 1 → v ≤ 1 → (r + e * 2 + s * 4 + v * 8 + f * 16 + n * 256 + q * 512 + l * 2 ^ 14 + t * 2 ^ 23) / 2 ^ 3 % 2 ≡ v
+third r e s v f n q l t a b c d = omega arith
+
+pub reserved_told_is : (m : Mean) (v : View) (c : ℕ) → reserved_told (seen m v) c ≡ (record_of m c).flags.reserved
+reserved_told_is m v c =
+    ap (λ (n : ℕ). eqb n 1) (third (bool_byte (record_of m c).flags.running) (bool_byte (record_of m c).flags.error) (bool_byte (record_of m c).flags.stop)
+    (bool_byte (record_of m c).flags.reserved) (unwrap_or (lowest_free m.records) 0) (bool_byte (not (is_some (lowest_free m.records))))
+    (bool_byte m.quiet) (record_of m c).counts.landed (record_of m c).counts.sent (bit_small _) (bit_small _) (bit_small _) (bit_small _))
+    ∙ bit_tells _

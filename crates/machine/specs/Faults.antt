@@ -7,6 +7,7 @@ use Rattle.sheet.specs.Faults.{sheet_told}
 use Rattle.machine.specs.declared.fault.ChannelFault.{ChannelFault}
 use Rattle.machine.specs.declared.fault.ChannelFault.TheVariants.{NoChannel, NoPlace, Program, Sheet, NoneFree, Unreserved, Running, Quiet, Empty, NotRunning}
 
+-- a refusal of the layer of the channels
 abbrev on_channel : ℕ → ℕ → Told
 on_channel number detail = record { number = number; detail = detail; layer = layer.Channel }
 

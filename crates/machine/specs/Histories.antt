@@ -23,11 +23,17 @@ now_seen opening (e ∷ h) = e.after
 abbrev pub runs : Seen → ℕ → Bool
 runs s c = s.status c % 2 == 1
 
+-- the count of landings that status tells
 abbrev pub landed_told : Seen → ℕ → ℕ
 landed_told s c = s.status c / 2 ^ 14 % 2 ^ 9
 
+-- the count of requests that status tells
 abbrev pub sent_told : Seen → ℕ → ℕ
 sent_told s c = s.status c / 2 ^ 23 % 2 ^ 9
+
+-- status tells that the channel is reserved
+abbrev pub reserved_told : Seen → ℕ → Bool
+reserved_told s c = s.status c / 2 ^ 3 % 2 == 1
 
 -- a call was accepted: its answer is no refusal
 abbrev pub accepted : Answer → Bool
@@ -46,10 +52,12 @@ pub record Starts : Type 0 where
   pub channel : ℕ
   pub program : Stored
 
+-- the start of a program that the words say, if they say one
 abbrev pub start_of : ℕ → Option Stored → Option Starts
 start_of c None = None
 start_of c (Some p) = Some (record { channel = c; program = p })
 
+-- what a call starts, if it was accepted
 abbrev pub start_in : Call → Bool → Option Starts
 start_in (start c w) ok = cond ok (start_of c (program_of w)) None
 start_in reserve ok = None
@@ -63,6 +71,7 @@ start_in (look c p) ok = None
 start_in (status c) ok = None
 start_in turn ok = None
 
+-- what an event starts
 abbrev pub starts : Event → Option Starts
 starts e = start_in e.call (accepted e.answer)
 
@@ -71,10 +80,12 @@ pub record Begun : Type 0 where
   pub program : Stored
   pub at : Seen
 
+-- the latest program after an event that started this, or nothing
 abbrev pub begun_by : ℕ → Option Starts → Seen → Option Begun → Option Begun
 begun_by c None s before = before
 begun_by c (Some q) s before = cond (q.channel == c) (Some (record { program = q.program; at = s })) before
 
+-- the latest program of a channel over a history
 abbrev pub begun : ℕ → History → Option Begun
 begun c [] = None
 begun c (e ∷ h) = begun_by c (starts e) e.after (begun c h)
@@ -87,6 +98,7 @@ given_to c answer.Done = false
 given_to c (answer.Word w) = false
 given_to c (answer.Turned t) = false
 
+-- the call set the counts of the channel back
 abbrev pub resets_by : ℕ → Call → Answer → Bool
 resets_by c reserve a = given_to c a
 resets_by c (release d) a = d == c && accepted a
@@ -100,14 +112,35 @@ resets_by c (look d p) a = false
 resets_by c (status d) a = false
 resets_by c turn a = false
 
+-- the event set them back
 abbrev pub resets : ℕ → Event → Bool
 resets c e = resets_by c e.call e.answer
 
--- the requests that turn's answers gave for the channel since then
+-- the call released the channel, and was accepted
+abbrev pub releases_by : ℕ → Call → Answer → Bool
+releases_by c (release d) a = d == c && accepted a
+releases_by c reserve a = false
+releases_by c (put d p w) a = false
+releases_by c (fill d bytes) a = false
+releases_by c (start d w) a = false
+releases_by c (stop d) a = false
+releases_by c quiet a = false
+releases_by c wake a = false
+releases_by c (look d p) a = false
+releases_by c (status d) a = false
+releases_by c turn a = false
+
+-- a channel is held from the reserve that gave it to its accepted release
+abbrev pub held : ℕ → History → Bool
+held c [] = false
+held c (e ∷ h) = cond (given_to c e.answer) true (cond (releases_by c e.call e.answer) false (held c h))
+
+-- the requests that turn's answers gave for the channel since its counts were set back
 abbrev pub sent_by : ℕ → Service → ℕ
 sent_by c serves.Nothing = 0
 sent_by c (serves.Sent d n) = cond (d.0 == c) n 0
 
+-- the requests that an answer tells for the channel
 abbrev pub sent_in : ℕ → Answer → ℕ
 sent_in c (answer.Turned t) = sent_by c t.service
 sent_in c (answer.Refused f) = 0
@@ -115,6 +148,7 @@ sent_in c answer.Done = 0
 sent_in c (answer.Given d) = 0
 sent_in c (answer.Word w) = 0
 
+-- the requests that turn's answers gave since then, over a history
 abbrev pub sent_count : ℕ → History → ℕ
 sent_count c [] = 0
 sent_count c (e ∷ h) = cond (resets c e) 0 (sent_count c h + sent_in c e.answer)
@@ -125,6 +159,7 @@ landed_by c lands.Nothing = 0
 landed_by c lands.NotYet = 0
 landed_by c (lands.Reply d p word) = cond (d.0 == c) 1 0
 
+-- the landings that an answer tells for the channel
 abbrev pub landed_in : ℕ → Answer → ℕ
 landed_in c (answer.Turned t) = landed_by c t.landing
 landed_in c (answer.Refused f) = 0
@@ -132,6 +167,7 @@ landed_in c answer.Done = 0
 landed_in c (answer.Given d) = 0
 landed_in c (answer.Word w) = 0
 
+-- the landings since then, over a history
 abbrev pub landed_count : ℕ → History → ℕ
 landed_count c [] = 0
 landed_count c (e ∷ h) = cond (resets c e) 0 (landed_count c h + landed_in c e.answer)
@@ -155,6 +191,7 @@ abbrev pub starts_on : ℕ → Option Starts → Bool
 starts_on c None = false
 starts_on c (Some q) = q.channel == c
 
+-- the turns since the channel's latest accepted start, over a history
 abbrev pub turns_since : ℕ → History → ℕ
 turns_since c [] = 0
 turns_since c (e ∷ h) = cond (starts_on c (starts e)) 0 (turns_since c h + is_turn e.call)
@@ -173,6 +210,7 @@ stops_by c (look d p) a = false
 stops_by c (status d) a = false
 stops_by c turn a = false
 
+-- a stop of the channel was accepted since its start, over a history
 abbrev pub stopped : ℕ → History → Bool
 stopped c [] = false
 stopped c (e ∷ h) = cond (starts_on c (starts e)) false (cond (stops_by c e.call e.answer) true (stopped c h))
@@ -191,6 +229,7 @@ touches_by c (look d p) a = false
 touches_by c (status d) a = false
 touches_by c turn a = false
 
+-- a put, fill or release was accepted there since the start, over a history
 abbrev pub touched : ℕ → History → Bool
 touched c [] = false
 touched c (e ∷ h) = cond (starts_on c (starts e)) false (cond (touches_by c e.call e.answer) true (touched c h))
@@ -199,9 +238,11 @@ touched c (e ∷ h) = cond (starts_on c (starts e)) false (cond (touches_by c e.
 abbrev pub cell_at : Stored → ℕ → ℕ
 cell_at p i = (p.cell + i) % 2 ^ 32
 
+-- the program names the cell
 abbrev pub Names : Stored → ℕ → Type 0
 Names p b = (i : ℕ) × (i ≤ p.last - p.first) × (cell_at p i ≡ b)
 
+-- the mode only reads cells
 abbrev pub is_load : Mode → Bool
 is_load Load = true
 is_load Store = false
@@ -220,11 +261,12 @@ ConflictsRunning c p s h = (d : ℕ) × (q : Begun) × ((d ≢ c) × (runs s d �
 abbrev pub ConflictsLater : ℕ → Stored → History → Type 0
 ConflictsLater c q h = (b : Begun) × ((begun c h ≡ Some b) × Conflict b.program q)
 
--- the latest program of a channel clashes with another channel's
+-- the latest program of a channel clashes with another channel's: after an event that started this or nothing, where it did so before or not
 abbrev pub ClashBy : ℕ → Option Starts → Seen → History → Type 0 → Type 0
 ClashBy c None s h before = before
 ClashBy c (Some q) s h before = cond (q.channel == c) (ConflictsRunning c q.program s h) (ConflictsLater c q.program h ⊎ before)
 
+-- the same over a history: the latest program of a channel clashes with another channel's
 abbrev pub Clashes : ℕ → History → Type 0
 Clashes c [] = ⊥
 Clashes c (e ∷ h) = ClashBy c (starts e) e.after h (Clashes c h)

@@ -1,5 +1,6 @@
 -- The laws over runs: what may be told of every history of the eleven calls from a new mover.
 use Rattle.std.specs.Prelude.{◌≡◌, ℕ, zero, suc, ◌+◌, ◌-◌, ◌*◌, ◌^◌, ◌<◌, ◌≤◌, Bool, true, false, cond, ◌&&◌, List, [], ◌∷◌, ◌++◌, Some, None, Ok, Err, Option, Result, ◌==◌, nat_le, nat_lt}
+use mir.Val.{bool_byte}
 use Rattle.std.specs.Option.{option_map}
 use Rattle.memory.specs.Views.{View, longest}
 use Rattle.operators.specs.Choices.{join_by}
@@ -7,7 +8,7 @@ use Rattle.operators.specs.Modes.{sending, word_after}
 use Rattle.operators.specs.declared.choice.Choice.{Choice}
 use Rattle.operators.specs.declared.mode.Mode.{Mode}
 use Rattle.operators.specs.declared.mode.Mode.TheVariants.{Load, Store, Mp, Sync}
-use Rattle.machine.specs.Histories.{now_seen, runs, landed_told, sent_told, starts, Starts, Begun, begun, sent_count, landed_count, turns_since, stopped, touched, cell_at, Names, Clashes}
+use Rattle.machine.specs.Histories.{now_seen, runs, landed_told, sent_told, reserved_told, given_to, held, starts, Starts, Begun, begun, sent_count, landed_count, turns_since, stopped, touched, cell_at, Names, Clashes}
 use Rattle.machine.specs.Means.{Mean}
 use Rattle.machine.specs.Soundness.{new_mean}
 use Rattle.machine.specs.Steps.{Call, Step, Seen, seen, History, Run}
@@ -33,6 +34,7 @@ place_alone c b landed p =
     (tells p (b.at.cell (cell_at b.program (p - b.program.first))))
     (b.at.look c p)
 
+-- the word that look tells, 0 where it tells none
 abbrev pub word_told : Result ℕ ChannelFault → ℕ
 word_told (Ok w) = w
 word_told (Err f) = 0
@@ -65,6 +67,7 @@ Under o Store = ⊥
 Under o (Mp x) = x ≡ o
 Under o (Sync x) = x ≡ o
 
+-- a program that begins and names the cell keeps to the operator
 abbrev pub UnderBy : Choice → ℕ → Option Starts → Type 0
 UnderBy o a None = Unit {0}
 UnderBy o a (Some q) = Names q.program a → Under o q.program.mode
@@ -74,6 +77,7 @@ abbrev pub OnlyUnder : Choice → ℕ → History → Type 0
 OnlyUnder o a [] = Unit {0}
 OnlyUnder o a (e ∷ h) = UnderBy o a (starts e) × OnlyUnder o a h
 
+-- the mode joins words to cells
 abbrev pub joins : Mode → Bool
 joins Load = false
 joins Store = false
@@ -85,14 +89,17 @@ abbrev pub words_from : ℕ → Begun → ℕ → ℕ → ℕ → List ℕ
 words_from c b a zero i = []
 words_from c b a (suc n) i = words_from c b a n (i + 1) ++ cond (joins b.program.mode && cell_at b.program i == a) (word_of c b i ∷ []) []
 
+-- the same for the latest program of a channel, if there is one
 abbrev pub words_of : ℕ → Option Begun → ℕ → ℕ → ℕ → List ℕ
 words_of c None a n i = []
 words_of c (Some b) a n i = words_from c b a n i
 
+-- the words that a service sent to the cell
 abbrev pub words_by : Service → ℕ → History → List ℕ
 words_by serves.Nothing a h = []
 words_by (serves.Sent d n) a h = words_of d.0 (begun d.0 h) a n (sent_count d.0 h)
 
+-- the words that a call with this answer sent to the cell
 abbrev pub words_in : Answer → ℕ → History → List ℕ
 words_in (answer.Turned t) a h = words_by t.service a h
 words_in (answer.Refused f) a h = []
@@ -105,14 +112,26 @@ abbrev pub words_sent : ℕ → History → List ℕ
 words_sent a [] = []
 words_sent a (e ∷ h) = words_in e.answer a h ++ words_sent a h
 
+-- a word with all of these joined to it
 abbrev pub join_all : Choice → ℕ → List ℕ → ℕ
 join_all o opening [] = opening
 join_all o opening (w ∷ ws) = join_by o (join_all o opening ws) w
 
--- Sums are whole: a fitted cell changed under one operator only holds its opening word joined with every word sent to it, each exactly once.
+-- how often a word stands in a list
+abbrev pub times_in : ℕ → List ℕ → ℕ
+times_in w [] = 0
+times_in w (x ∷ xs) = bool_byte (x == w) + times_in w xs
+
+-- the same words, each as often, in whatever order
+abbrev pub SameWords : List ℕ → List ℕ → Type 0
+SameWords xs ys = (w : ℕ) → times_in w xs ≡ times_in w ys
+
+-- Sums are whole: a fitted cell changed under one operator only holds its opening word joined with every word sent to it, each exactly once,
+-- in whatever order they are joined.
 abbrev pub Summed : Seen → History → Type 0
 Summed opening h =
-    (a : ℕ) → a < 2 ^ 32 → (o : Choice) → OnlyUnder o a h → (now_seen opening h).cell a ≡ option_map (λ w. join_all o w (words_sent a h)) (opening.cell a)
+    (a : ℕ) → a < 2 ^ 32 → (o : Choice) → OnlyUnder o a h → (words : List ℕ) → SameWords words (words_sent a h)
+    → (now_seen opening h).cell a ≡ option_map (λ w. join_all o w words) (opening.cell a)
 
 -- TURNS
 
@@ -133,10 +152,24 @@ pub record Bounded (opening : Seen) (h : History) : Type 0 where
   pub none_unsent : (c : ℕ) → c < 16 → (b : Begun) → begun c h ≡ Some b → Ends opening c h → stopped c h ≡ false
       → sent_count c h ≡ b.program.last + 1 - b.program.first
 
+-- WHO HOLDS A CHANNEL
+
+-- whenever a channel was given, nobody held it
+abbrev pub GivenFree : History → Type 0
+GivenFree [] = Unit {0}
+GivenFree (e ∷ h) = ((c : ℕ) → given_to c e.answer ≡ true → held c h ≡ false) × GivenFree h
+
+-- Channels have one holder: status tells which are held, and a channel that was given is not given again before its release.
+pub record Allotted (opening : Seen) (h : History) : Type 0 where
+  pub told : (c : ℕ) → c < 16 → reserved_told (now_seen opening h) c ≡ held c h
+  pub given_free : GivenFree h
+
+-- what holds of every history: figures are traced, sums are whole, programs end, channels have one holder
 pub record Law (opening : Seen) (h : History) : Type 0 where
   pub traced : Traced opening h
   pub summed : Summed opening h
   pub bounded : Bounded opening h
+  pub allotted : Allotted opening h
 
 -- What every call says of every run that it goes on from: the step that it makes, the longer run, and the law of that run.
 pub record Keeps (call : Call) (answer : Answer) (before : Mean) (was : View) (after : Mean) (is : View) : Type 0 where

@@ -5,4 +5,5 @@ pub mod Laws
 pub mod Means
 pub mod Soundness
 pub mod Steps
+pub mod Told
 pub mod Turns

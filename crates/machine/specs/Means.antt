@@ -9,6 +9,7 @@ use Rattle.machine.specs.declared.record.Record.{Record}
 use Rattle.machine.specs.declared.record.Stored.{Stored}
 use Rattle.machine.specs.declared.state.State.{State}
 
+-- what the state of a mover means
 pub record Mean : Type 0 where
   -- what is kept of each channel
   pub records : List Record
@@ -22,6 +23,7 @@ pub record Mean : Type 0 where
   -- the previous service was of a single
   pub after_single : Bool
 
+-- the meaning of a state: its lines as lists
 abbrev pub mean_of : State → Mean
 mean_of s = record {
   records = s.records;
@@ -36,6 +38,7 @@ mean_of s = record {
 abbrev pub Window : Type 0
 Window = List (Option ℕ)
 
+-- what stands for the program of a record that never ran one
 abbrev pub no_program : Stored
 no_program = record { single = false; mode = Load; first = 0; last = 0; cell = 0; word = 0 }
 
@@ -52,9 +55,11 @@ cleared reserved window = record {
 abbrev pub absent : Record
 absent = cleared false []
 
+-- the record of a channel
 abbrev pub record_of : Mean → ℕ → Record
 record_of m c = slice_index_or m.records c absent
 
+-- the same with another record of one channel
 abbrev pub with_record : Mean → ℕ → Record → Mean
 with_record m c r = record {
   records = slice_set m.records c r;
@@ -65,6 +70,7 @@ with_record m c r = record {
   after_single = m.after_single;
 }
 
+-- the same with this quiet mark
 abbrev pub with_quiet : Mean → Bool → Mean
 with_quiet m quiet = record {
   records = m.records;
@@ -75,6 +81,7 @@ with_quiet m quiet = record {
   after_single = m.after_single;
 }
 
+-- the same with these lines
 abbrev pub with_lines : Mean → List Channel → List Channel → Mean
 with_lines m singles blocks = record {
   records = m.records;
@@ -85,8 +92,10 @@ with_lines m singles blocks = record {
   after_single = m.after_single;
 }
 
+-- a record with these flags
 abbrev pub with_flags : Record → Flags → Record
 with_flags r flags = record { flags = flags; counts = r.counts; program = r.program; window = r.window }
 
+-- a record with this window
 abbrev pub with_window : Record → Window → Record
 with_window r window = record { flags = r.flags; counts = r.counts; program = r.program; window = window }

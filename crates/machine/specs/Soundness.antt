@@ -37,6 +37,7 @@ pub record Due : Type 0 where
   pub channel : ℕ
   pub place : ℕ
 
+-- so many replies of a channel, in places that follow each other
 abbrev pub due_from : ℕ → ℕ → ℕ → List Due
 due_from zero c p = []
 due_from (suc n) c p = record { channel = c; place = p } ∷ due_from n c (p + 1)
@@ -56,6 +57,7 @@ abbrev pub FinalLast : List Piece → Type 0
 FinalLast [] = Unit {0}
 FinalLast (p ∷ ps) = (p.last ≡ true → places_due p.channel.0 (dues ps) ≡ []) × FinalLast ps
 
+-- all are channels
 abbrev pub ChannelsFit : List Channel → Type 0
 ChannelsFit [] = Unit {0}
 ChannelsFit (c ∷ cs) = (c.0 < 16) × ChannelsFit cs
@@ -88,9 +90,11 @@ pub record Stands (r : Record) (s b f : ℕ) (places : List ℕ) : Type 0 where
   -- its replies are due in the order of its places, from the landed count to the sent count
   pub due : places ≡ count_up (still_due r) (r.program.first + r.counts.landed)
 
+-- what is known of one channel of a mover
 abbrev pub ChannelSound : Mean → ℕ → Type 0
 ChannelSound m c = Stands (record_of m c) (times c m.singles) (times c m.blocks) (finals c m.flight) (places_due c (dues m.flight))
 
+-- what is known of a mover over a memory of this meaning
 pub record Sound (m : Mean) (v : View) : Type 0 where
   pub wide : length m.records ≡ 16
   pub channels : (c : ℕ) → c < 16 → ChannelSound m c

@@ -25,6 +25,7 @@ pub data Call : Type 0 where
   status : ℕ → Call
   turn : Call
 
+-- what a call answers that gives no value
 abbrev pub done_unless : Refused → Answer
 done_unless None = answer.Done
 done_unless (Some f) = answer.Refused f
@@ -34,10 +35,12 @@ abbrev pub done_or : Result (Unit {0}) ChannelFault → Answer
 done_or (Ok _) = answer.Done
 done_or (Err f) = answer.Refused f
 
+-- what a call answers that tells a word
 abbrev pub word_or : Result ℕ ChannelFault → Answer
 word_or (Ok w) = answer.Word w
 word_or (Err f) = answer.Refused f
 
+-- what a call answers that gives a channel
 abbrev pub given_or : Result Channel ChannelFault → Answer
 given_or (Ok c) = answer.Given c
 given_or (Err f) = answer.Refused f
@@ -62,6 +65,7 @@ pub record Seen : Type 0 where
   pub status : ℕ → ℕ
   pub cell : ℕ → Option ℕ
 
+-- what is seen of a mover over a memory
 abbrev pub seen : Mean → View → Seen
 seen m v = record { look = look_answer m; status = status_word m; cell = v.cell }
 

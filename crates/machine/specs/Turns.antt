@@ -40,6 +40,7 @@ abbrev pub flight_after : Piece → List Piece → List Piece
 flight_after p rest =
     cond (p.due == 1) rest (record { channel = p.channel; next = record { 0 = p.next.0 + 1 }; due = p.due - 1; last = p.last } ∷ rest)
 
+-- the same with these pieces in flight
 abbrev pub with_flight : Mean → List Piece → Mean
 with_flight m flight = record {
   records = m.records;
@@ -50,6 +51,7 @@ with_flight m flight = record {
   after_single = m.after_single;
 }
 
+-- the state after a reply to the oldest piece
 abbrev pub land_piece : Mean → Piece → List Piece → Option ℕ → Mean
 land_piece m p rest reply = with_flight (with_record m p.channel.0 (landed_record p reply (record_of m p.channel.0))) (flight_after p rest)
 
@@ -60,6 +62,7 @@ landed m (p ∷ rest) taken.Nothing = m
 landed m (p ∷ rest) taken.NotYet = m
 landed m (p ∷ rest) (taken.Reply reply) = land_piece m p rest reply
 
+-- what the landing tells
 abbrev pub landing : List Piece → Taken → Landing
 landing [] t = lands.Nothing
 landing (p ∷ rest) taken.Nothing = lands.Nothing
@@ -81,6 +84,7 @@ serviced m = cond (nat_lt (length m.flight) 4) (chosen m.singles m.blocks m.afte
 abbrev pub next_piece : Record → Span
 next_piece r = first_piece (from_to (r.program.first + r.counts.sent) r.program.last)
 
+-- how many places a piece has
 abbrev pub piece_length : Span → ℕ
 piece_length s = s.to + 1 - s.from
 
@@ -99,10 +103,12 @@ request_at r p = record {
   action = sending r.program.mode (word_sent r p);
 }
 
+-- the requests of so many places that follow each other
 abbrev pub requests_from : Record → ℕ → ℕ → List Request
 requests_from r zero p = []
 requests_from r (suc n) p = request_at r p ∷ requests_from r n (p + 1)
 
+-- the requests of the channel's next piece
 abbrev pub requests : Record → List Request
 requests r = requests_from r (piece_length (next_piece r)) (next_piece r).from
 
@@ -127,6 +133,7 @@ served_record r = record {
   window = r.window;
 }
 
+-- a list without its first item
 abbrev pub rest : {X : Type 0} → List X → List X
 rest [] = []
 rest (x ∷ xs) = xs
@@ -144,14 +151,17 @@ serve m c r = record {
   after_single = r.program.single;
 }
 
+-- the state after a service, if a channel was chosen
 abbrev pub served : Mean → Option Channel → Mean
 served m None = m
 served m (Some c) = serve m c (record_of m c.0)
 
+-- what the service tells
 abbrev pub service : Mean → Option Channel → Service
 service m None = serves.Nothing
 service m (Some c) = serves.Sent c (piece_length (next_piece (record_of m c.0)))
 
+-- the requests of a service
 abbrev pub requested : Mean → Option Channel → List Request
 requested m None = []
 requested m (Some c) = requests (record_of m c.0)

@@ -10,7 +10,8 @@ use Rattle.machine.specs.declared.answer.Landing.TheVariants as lands
 use Rattle.machine.specs.declared.piece.Piece.{Piece}
 use Rattle.machine.proofs.KeptSteps.{sound_landed, sound_served}
 use Rattle.mover.specs.Halves.{Lands}
-use Rattle.mover.specs.Meaning.{mean, LinesSound, MoverSound}
+use Rattle.channels.specs.Standing.{LinesSound}
+use Rattle.mover.specs.Meaning.{mean, MoverSound}
 use Rattle.mover.specs.declared.mover.Mover.{Mover}
 
 module _ {M : Type 0} (hall : Ghosts M) (s t : Mover M) (sound : MoverSound hall s) (memory : hall.sound t.memory) (lines : LinesSound t.state) where

@@ -1,10 +1,3 @@
-pub mod Finding
 pub mod Fresh
 pub mod Halfway
 pub mod Keeping
-pub mod Next
-pub mod Oldest
-pub mod Sending
-pub mod Starting
-pub mod Stepping
-pub mod Telling

@@ -1,12 +1,12 @@
 -- The meaning of a mover, and what its making gives and every call keeps.
 use Rattle.memory.specs.Views.{View}
 use Rattle.memory.specs.declared.interface.HallMemory.{Ghosts}
-use Rattle.queue.specs.Queues as queue
 use Rattle.machine.specs.Means.{Mean, mean_of}
 use Rattle.machine.specs.Soundness.{Sound}
-use Rattle.machine.specs.declared.state.State.{State}
+use Rattle.channels.specs.Standing.{LinesSound}
 use Rattle.mover.specs.declared.mover.Mover.{Mover}
 
+-- the meaning of the state of a mover
 abbrev pub mean : {M : Type 0} → Mover M → Mean
 mean s = mean_of s.state
 
@@ -14,11 +14,7 @@ mean s = mean_of s.state
 abbrev pub hall_view : {M : Type 0} → Ghosts M → Mover M → View
 hall_view hall s = hall.view s.memory
 
-pub record LinesSound (s : State) : Type 0 where
-  pub singles : queue.Sound s.singles
-  pub blocks : queue.Sound s.blocks
-  pub flight : queue.Sound s.flight
-
+-- the memory is sound, the lines are, and what is known of a mover holds over that memory
 pub record MoverSound {M : Type 0} (hall : Ghosts M) (s : Mover M) : Type 0 where
   pub memory : hall.sound s.memory
   pub lines : LinesSound s.state

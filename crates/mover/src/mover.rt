@@ -1,6 +1,5 @@
 pub mod calls;
 pub mod making;
-mod steps;
 mod turning;
 
 use machine::state::State;

@@ -1,4 +1,5 @@
 pub mod Choices
 pub mod Joins
 pub mod Modes
+pub mod Chosen
 pub mod Bracketing

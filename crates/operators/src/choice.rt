@@ -1,8 +1,5 @@
 ghost use Rattle.operators.specs.Choices.{join_by};
-ghost use Rattle.std.proofs.Common.{arith};
-ghost use Rattle.operators.specs.declared.choice.Choice.TheVariants.{And, Or, Max, Add};
-ghost use Rattle.operators.specs.Bracketing.{and_bracketing, or_bracketing, add_bracketing};
-ghost use Rattle.std.proofs.lemmas.Nat.{and_comm, or_comm};
+ghost use Rattle.operators.specs.Chosen.{chosen_bracketing, chosen_order};
 
 use crate::four::{Add, And, Max, Or};
 use crate::operator::Operator;
@@ -19,19 +16,9 @@ pub enum Choice {
 impl Operator for Choice {
     ghost joined = { join_by };
 
-    ghost bracketing = { elim [
-      | And ↦ and_bracketing
-      | Or ↦ or_bracketing
-      | Max ↦ λ x y z. omega arith
-      | Add ↦ add_bracketing
-    ] };
+    ghost bracketing = { chosen_bracketing };
 
-    ghost order = { elim [
-      | And ↦ and_comm
-      | Or ↦ or_comm
-      | Max ↦ λ x y. omega arith
-      | Add ↦ λ x y. omega arith
-    ] };
+    ghost order = { chosen_order };
 
     fn join(&self, x: u32, y: u32) -> u32 {
         match *self {

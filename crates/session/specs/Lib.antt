@@ -1,1 +1,2 @@
-pub mod Halls
+pub mod Performed
+pub mod Scripts

@@ -1,12 +1,6 @@
-// A script as it is carried out: the hall that its lines make, and their answers.
+// A script as it comes in: its lines carried out one after another, and their answers written.
 #![tactic(auto)]
 
-mod hall;
-mod memories;
-mod movers;
-mod programs;
-mod refused;
 pub mod script;
 pub mod session;
-mod shown;
-mod turned;
+mod written;

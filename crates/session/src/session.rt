@@ -1,9 +1,13 @@
-ghost use Rattle.session.specs.Halls.{HallSound};
+ghost use Rattle.std.specs.Prelude.{◌≡◌};
+ghost use Rattle.dispatch.specs.Halls.{HallSound};
+ghost use Rattle.session.specs.Performed.{Answers, Spares};
+ghost use Rattle.dispatch.specs.declared.hall.Hall.TheVariants.{Empty};
 
-use crate::hall::Hall;
-use crate::programs;
+use crate::written::perform;
 use commands::command::Command;
 use commands::trouble::Trouble;
+use dispatch::hall::Hall;
+use pile::piles::Pile;
 use reading::fields::passed_over;
 use std::alloc::Global;
 use std::io::Write;
@@ -12,12 +16,13 @@ use std::io::Write;
 #[derive(Drop)]
 pub struct Session {
     heap: Global,
-    hall: Hall,
+    hall: Hall<Pile>,
 }
 
 impl Session {
     pub fn new(heap: Global) -> Session
-        ensures { HallSound result.hall }
+        ensures sound { HallSound result.hall }
+        ensures empty { result.hall ≡ Empty }
     {
         Session {
             heap,
@@ -25,23 +30,17 @@ impl Session {
         }
     }
 
-    // Carries out one line and writes its answer. A line that is passed over has none.
+    // Carries out one line and writes its answer. A line that is passed over has none, and a bad line changes nothing.
     pub fn answer<W: Write>(&mut self, line: &[u8], out: &mut W) -> Result<(), Trouble>
         requires { HallSound self.old.hall }
-        ensures { HallSound self.new.hall }
+        ensures sound { HallSound self.new.hall }
+        ensures answers { Answers line.now result self.old.hall self.new.hall }
+        ensures spares { Spares result self.old.hall self.new.hall }
     {
         if passed_over(line) {
             return Ok(());
         }
-        match Command::read(self.heap, line)? {
-            Command::Programs(command) => {
-                programs::carry_out(command, out)?;
-                Ok(())
-            }
-            Command::MakeMemory(plan) => self.hall.make(plan, out),
-            Command::Memory(command) => self.hall.ask(command, out),
-            Command::MakeMover => self.hall.hand_over(out),
-            Command::Mover(command) => self.hall.call(command, out),
-        }
+        let command = Command::read(self.heap, line)?;
+        perform(&mut self.hall, command, out)
     }
 }

@@ -1,4 +1,4 @@
-use Rattle.session.specs.Halls.{HallSound}
+use Rattle.dispatch.specs.Halls.{HallSound}
 use Rattle.hall.proofs.run.Given as goal
 
 -- every chunk leaves the hall sound

@@ -4,9 +4,10 @@ ghost use Rattle.machine.specs.Steps.{done_or, given_or, word_or};
 ghost use Rattle.machine.specs.Steps as call;
 ghost use Rattle.machine.specs.declared.answer.Answer.TheVariants as answer;
 ghost use Rattle.mover.specs.Meaning.{mean, MoverSound};
-ghost use Rattle.mover.specs.Told.{PutTold, FillTold, ReserveTold, ReleaseTold, StatusTold};
+ghost use Rattle.machine.specs.Told.{PutTold, FillTold, ReserveTold, ReleaseTold, StatusTold};
 
 use crate::mover::Mover;
+use channels::calls;
 use machine::answer::Turned;
 use machine::fault::ChannelFault;
 use memory::interface::HallMemory;
@@ -23,7 +24,7 @@ impl<M: HallMemory> Mover<M> {
         ensures keeps { Keeps call.reserve (given_or result) (mean self.old) (M.HallMemory.view self.old.memory) (mean self.new) (M.HallMemory.view self.new.memory) }
         ensures told { ReserveTold result (mean self.old) (mean self.new) }
     {
-        self.reserve_step()
+        calls::reserve(&mut self.state)
     }
 
     // Frees a channel and clears its record; its window stays.
@@ -33,7 +34,7 @@ impl<M: HallMemory> Mover<M> {
         ensures keeps { Keeps (call.release channel) (done_or result) (mean self.old) (M.HallMemory.view self.old.memory) (mean self.new) (M.HallMemory.view self.new.memory) }
         ensures told { ReleaseTold channel result (mean self.old) (mean self.new) }
     {
-        self.release_step(channel)
+        calls::release(&mut self.state, channel)
     }
 
     // Writes one place.
@@ -43,7 +44,7 @@ impl<M: HallMemory> Mover<M> {
         ensures keeps { Keeps (call.put channel place word) (done_or result) (mean self.old) (M.HallMemory.view self.old.memory) (mean self.new) (M.HallMemory.view self.new.memory) }
         ensures told { PutTold channel place word result (mean self.old) (mean self.new) }
     {
-        self.put_step(channel, place, word)
+        calls::put(&mut self.state, channel, place, word)
     }
 
     // Puts the words of a sheet into its places.
@@ -53,7 +54,7 @@ impl<M: HallMemory> Mover<M> {
         ensures keeps { Keeps (call.fill channel bytes.now) (done_or result) (mean self.old) (M.HallMemory.view self.old.memory) (mean self.new) (M.HallMemory.view self.new.memory) }
         ensures told { FillTold channel bytes.now result (mean self.old) (mean self.new) }
     {
-        self.fill_step(channel, bytes)
+        calls::fill(&mut self.state, channel, bytes)
     }
 
     // Reads a program and sets the channel running.
@@ -62,7 +63,7 @@ impl<M: HallMemory> Mover<M> {
         ensures sound { MoverSound M.HallMemory self.new }
         ensures keeps { Keeps (call.start channel words) (done_or result) (mean self.old) (M.HallMemory.view self.old.memory) (mean self.new) (M.HallMemory.view self.new.memory) }
     {
-        self.start_step(channel, words)
+        calls::start(&mut self.state, channel, words)
     }
 
     // Marks a running channel; a second stop adds nothing.
@@ -71,7 +72,7 @@ impl<M: HallMemory> Mover<M> {
         ensures sound { MoverSound M.HallMemory self.new }
         ensures keeps { Keeps (call.stop channel) (done_or result) (mean self.old) (M.HallMemory.view self.old.memory) (mean self.new) (M.HallMemory.view self.new.memory) }
     {
-        self.stop_step(channel)
+        calls::stop(&mut self.state, channel)
     }
 
     // Sets the quiet mark.
@@ -80,7 +81,7 @@ impl<M: HallMemory> Mover<M> {
         ensures sound { MoverSound M.HallMemory self.new }
         ensures keeps { Keeps call.quiet answer.Done (mean self.old) (M.HallMemory.view self.old.memory) (mean self.new) (M.HallMemory.view self.new.memory) }
     {
-        self.quiet_step()
+        calls::quiet(&mut self.state)
     }
 
     // Clears the quiet mark.
@@ -89,7 +90,7 @@ impl<M: HallMemory> Mover<M> {
         ensures sound { MoverSound M.HallMemory self.new }
         ensures keeps { Keeps call.wake answer.Done (mean self.old) (M.HallMemory.view self.old.memory) (mean self.new) (M.HallMemory.view self.new.memory) }
     {
-        self.wake_step()
+        calls::wake(&mut self.state)
     }
 
     // Tells one place.
@@ -97,7 +98,7 @@ impl<M: HallMemory> Mover<M> {
         requires { MoverSound M.HallMemory self.now }
         ensures { Keeps (call.look channel place) (word_or result) (mean self.now) (M.HallMemory.view self.now.memory) (mean self.now) (M.HallMemory.view self.now.memory) }
     {
-        self.look_step(channel, place)
+        calls::look(&self.state, channel, place)
     }
 
     // Tells the status word of a channel, reserved or not.
@@ -106,7 +107,7 @@ impl<M: HallMemory> Mover<M> {
         ensures keeps { Keeps (call.status channel) (word_or result) (mean self.now) (M.HallMemory.view self.now.memory) (mean self.now) (M.HallMemory.view self.now.memory) }
         ensures told { (w : ℕ) → result ≡ Ok w → StatusTold (mean self.now) channel w }
     {
-        self.status_step(channel)
+        calls::status(&self.state, channel)
     }
 
     // Landing, and then service.

@@ -5,14 +5,9 @@ ghost use Rattle.mover.specs.Making.{mover_check};
 ghost use Rattle.mover.specs.Meaning.{mean, MoverSound};
 
 use crate::mover::Mover;
-use crate::records::empty_record;
-use machine::piece::Piece;
-use machine::state::State;
+use channels::making::new_state;
 use memory::fault::MemoryFault;
 use memory::interface::HallMemory;
-use numbers::channel::Channel;
-use numbers::place::Place;
-use queue::line::Queue;
 
 impl<M: HallMemory> Mover<M> {
     // Refuses a memory that has replies in transit. It stays with its owner, who lends it for the check.
@@ -35,22 +30,9 @@ impl<M: HallMemory> Mover<M> {
         ensures opens { Opens (mean result) (M.HallMemory.view result.memory) }
         ensures memory { result.memory ≡ memory }
     {
-        let records = [empty_record(false); 16];
         Mover {
             memory,
-            state: State {
-                records,
-                singles: Queue::new(Channel(0)),
-                blocks: Queue::new(Channel(0)),
-                flight: Queue::new(Piece {
-                    channel: Channel(0),
-                    next: Place(0),
-                    due: 0,
-                    last: false,
-                }),
-                quiet: false,
-                after_single: false,
-            },
+            state: new_state(),
         }
     }
 }

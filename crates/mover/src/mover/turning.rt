@@ -2,7 +2,8 @@ ghost use Rattle.std.specs.Prelude.{◌≡◌, ◌+◌, ◌<◌, ◌≤◌, ◌�
 ghost use Rattle.machine.specs.Means.{record_of};
 ghost use Rattle.machine.specs.Turns.{Turns, land_piece, rest, serviced, serve, next_piece};
 ghost use Rattle.mover.specs.Halves.{Lands, Serves, choose_of, left_line};
-ghost use Rattle.mover.specs.Meaning.{mean, LinesSound, MoverSound};
+ghost use Rattle.channels.specs.Standing.{LinesSound};
+ghost use Rattle.mover.specs.Meaning.{mean, MoverSound};
 ghost use Rattle.program.specs.Pieces.{span};
 
 use crate::mover::Mover;

@@ -3,7 +3,7 @@ use Rattle.memory.specs.Effects.{Sends}
 use Rattle.memory.specs.declared.request.Request.{Request}
 use Rattle.program.specs.Pieces.{span}
 use Rattle.machine.specs.Turns.{piece_length}
-use Rattle.mover.proofs.Sending.{sent_more, room_left}
+use Rattle.machine.proofs.Sending.{sent_more, room_left}
 use Rattle.mover.proofs.pieces.send_piece.Goals as goal
 
 pub unreachable-requires : goal.unreachable-requires

@@ -1,15 +1,18 @@
-use Rattle.std.proofs.Common.{ap, arith}
+use Rattle.std.proofs.Common.{arith, rules}
 use Rattle.machine.specs.Steps as call
 use Rattle.machine.proofs.Lawful.{keeps}
-use Rattle.mover.proofs.Stepping.{done_is}
-use Rattle.mover.proofs.Telling.{fill_told}
+use Rattle.mover.proofs.Keeping.{state_sound}
+use Rattle.machine.proofs.Stepping.{done_is}
+use Rattle.machine.proofs.Telling.{fill_told}
 use Rattle.mover.proofs.mover.Mover.fill.Goals as goal
+
+pub fill-requires : goal.fill-requires
+fill-requires g c = state_sound g.M.HallMemory c.args.self.now c.requires
 
 pub returns : goal.returns
 returns g c =
-    let s = c.fill_step.ensures in
     record {
-      sound = s.sound;
-      keeps = keeps (call.fill c.args.channel c.args.bytes.now) _ _ _ _ _ (done_is _ _ s.answer, s.state, ap g.M.HallMemory.view s.memory);
-      told = fill_told _ _ _ c.args.channel c.args.bytes.now _ c.requires.state (λ i. omega (arith, c.type_inv.bytes i)) s.answer s.state;
+      sound = search rules;
+      keeps = keeps (call.fill c.args.channel c.args.bytes.now) _ _ _ _ _ (done_is _ _ (search rules), search rules, search rules);
+      told = fill_told _ _ _ c.args.channel c.args.bytes.now _ c.requires.state (λ i. omega (arith, c.type_inv.bytes i)) (search rules) (search rules);
     }

@@ -7,19 +7,19 @@ use Rattle.mover.specs.Halves.{Lands}
 use Rattle.machine.proofs.KeptLanding.{always_taken}
 use Rattle.mover.specs.Meaning.{mean}
 use Rattle.mover.proofs.Halfway.{landed_sound, landed_lands}
-use Rattle.mover.proofs.Oldest.{first_is, oldest}
+use Rattle.machine.proofs.Oldest.{first_is_so, oldest}
 use Rattle.mover.proofs.mover.Mover.land.Goals as goal
 
 pub unreachable-requires : goal.unreachable-requires
 unreachable-requires g c =
     let m = mean c.args.self.now in
-    let head = first_is m.flight c.in-Some.piece c.in-Some.ensures in
+    let head = first_is_so m.flight c.in-Some.piece c.in-Some.ensures in
     omega (arith, always_taken m _ c.in-Some.piece (rest m.flight) c.requires.state head, ap length c.in-Nothing.ensures.takes.transit.0)
 
 pub land_oldest-requires : goal.land_oldest-requires
 land_oldest-requires g c =
     let m = mean c.args.self.now in
-    let head = first_is m.flight c.in-Some.piece c.in-Some.ensures in
+    let head = first_is_so m.flight c.in-Some.piece c.in-Some.ensures in
     let p = oldest m _ c.in-Some.piece (rest m.flight) c.requires.state head in
     record {
       lines = c.requires.lines;
@@ -38,7 +38,7 @@ returns-in-Reply g c =
     let s = c.args.self.now in
     let t = c.land_oldest.new.self in
     let p = c.in-Some.piece in
-    let head = first_is (mean s).flight p c.in-Some.ensures in
+    let head = first_is_so (mean s).flight p c.in-Some.ensures in
     let same : c.take.new.self ≡ t.memory = sym c.land_oldest.ensures.memory in
     let memory = subst (λ (m : g.row.M.Denot). hall.sound m) same c.in-Reply.ensures.sound in
     let takes = subst (λ (m : g.row.M.Denot). Takes (Reply c.in-Reply.reply) (hall.view s.memory) (hall.view m)) same c.in-Reply.ensures.takes in

@@ -1,14 +1,17 @@
-use Rattle.std.proofs.Common.{ap}
+use Rattle.std.proofs.Common.{ap, rules}
 use Rattle.machine.specs.Steps as call
 use Rattle.machine.proofs.Lawful.{keeps}
-use Rattle.mover.proofs.Telling.{reserve_told}
+use Rattle.mover.proofs.Keeping.{state_sound}
+use Rattle.machine.proofs.Telling.{reserve_told}
 use Rattle.mover.proofs.mover.Mover.reserve.Goals as goal
+
+pub reserve-requires : goal.reserve-requires
+reserve-requires g c = state_sound g.M.HallMemory c.args.self.now c.requires
 
 pub returns : goal.returns
 returns g c =
-    let s = c.reserve_step.ensures in
     record {
-      sound = s.sound;
-      keeps = keeps call.reserve _ _ _ _ _ (ap call.given_or s.answer, s.state, ap g.M.HallMemory.view s.memory);
-      told = reserve_told _ _ _ s.answer s.state;
+      sound = search rules;
+      keeps = keeps call.reserve _ _ _ _ _ (ap call.given_or (search rules), search rules, search rules);
+      told = reserve_told _ _ _ (search rules) (search rules);
     }

@@ -6,7 +6,7 @@ use Rattle.machine.specs.Turns.{SentAll, requests_from, requests, requested, ser
 use Rattle.machine.specs.declared.answer.Service.TheVariants.{Sent}
 use Rattle.mover.specs.Meaning.{mean}
 use Rattle.mover.proofs.Halfway.{served_sound}
-use Rattle.mover.proofs.Next.{next}
+use Rattle.machine.proofs.Next.{next}
 use Rattle.mover.proofs.mover.Mover.serve_next.Goals as goal
 
 pub send_piece-requires : goal.send_piece-requires

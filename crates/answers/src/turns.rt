@@ -1,0 +1,61 @@
+// How a turn is written.
+ghost use Rattle.std.specs.Prelude.{Some};
+ghost use Rattle.answers.specs.Texts.{landing_text, service_text, turn_text};
+
+use machine::answer::{Landing, Service, Turned};
+use std::fmt;
+
+#[derive(Clone, Copy)]
+pub struct ShownLanding(pub Landing);
+
+impl fmt::Display for ShownLanding {
+    ghost output = { λ x. Some (landing_text x.0) };
+
+    fn fmt<W: fmt::Write>(&self, f: &mut fmt::Formatter<W>) -> fmt::Result {
+        match self.0 {
+            Landing::Nothing => write!(f, "none"),
+            Landing::NotYet => write!(f, "not yet"),
+            Landing::Reply(channel, place, true) => write!(
+                f,
+                "channel {} place {} word",
+                channel.0, place.0
+            ),
+            Landing::Reply(channel, place, false) => write!(
+                f,
+                "channel {} place {} no word",
+                channel.0, place.0
+            ),
+        }
+    }
+}
+
+#[derive(Clone, Copy)]
+pub struct ShownService(pub Service);
+
+impl fmt::Display for ShownService {
+    ghost output = { λ x. Some (service_text x.0) };
+
+    fn fmt<W: fmt::Write>(&self, f: &mut fmt::Formatter<W>) -> fmt::Result {
+        match self.0 {
+            Service::Nothing => write!(f, "none"),
+            Service::Sent(channel, requests) => write!(
+                f,
+                "channel {} requests {requests}",
+                channel.0
+            ),
+        }
+    }
+}
+
+#[derive(Clone, Copy)]
+pub struct ShownTurn(pub Turned);
+
+impl fmt::Display for ShownTurn {
+    ghost output = { λ x. Some (turn_text x.0) };
+
+    fn fmt<W: fmt::Write>(&self, f: &mut fmt::Formatter<W>) -> fmt::Result {
+        let landing = ShownLanding(self.0.landing);
+        let service = ShownService(self.0.service);
+        write!(f, "landing {landing}, service {service}")
+    }
+}

@@ -1,0 +1,4 @@
+pub mod Finding
+pub mod Fresh
+pub mod Keeping
+pub mod Starting

@@ -1,0 +1,8 @@
+// The sixteen channels: what a mover keeps of them, and the ten calls that do not reach the hall memory.
+#![tactic(auto)]
+
+pub mod calls;
+mod checks;
+pub mod making;
+mod records;
+mod status;

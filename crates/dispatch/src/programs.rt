@@ -1,0 +1,18 @@
+ghost use Rattle.std.specs.Prelude.{◌≡◌};
+ghost use Rattle.dispatch.specs.Carried.{alone_reply};
+
+use answers::reply::Reply;
+use commands::programs::ProgramCommand;
+use operators::operator::Operator;
+use program::kind::Program;
+
+// Carries out a command that needs no memory.
+pub fn carry_out(command: ProgramCommand) -> Reply
+    ensures { result ≡ alone_reply command }
+{
+    match command {
+        ProgramCommand::Program(words) => Reply::program(Program::read(words)),
+        ProgramCommand::Pieces(words) => Reply::pieces(Program::read(words)),
+        ProgramCommand::Join(choice, x, y) => Reply::Word(choice.join(x, y)),
+    }
+}
