@@ -14,7 +14,6 @@ use Rattle.program.specs.declared.layout.Words.{Words}
 use Rattle.machine.specs.declared.answer.Landing.{Landing}
 use Rattle.machine.specs.declared.answer.Landing.TheVariants as landing
 use Rattle.machine.specs.declared.answer.Service.{Service}
-use Rattle.machine.specs.declared.answer.Service.TheVariants as service
 use Rattle.machine.specs.declared.answer.Turned.{Turned}
 use Rattle.reading.specs.Names.{operator_name}
 use Rattle.answers.specs.declared.reply.Refused.{Refused}
@@ -69,9 +68,9 @@ landing_text (landing.Reply c p true) = text (codes "channel " ∷ decimal c.0 �
 landing_text (landing.Reply c p false) = text (codes "channel " ∷ decimal c.0 ∷ codes " place " ∷ decimal p.0 ∷ codes " no word" ∷ [])
 
 -- what was served, and with how many requests
-abbrev pub service_text : Service → List ℕ
-service_text service.Nothing = codes "none"
-service_text (service.Sent c n) = text (codes "channel " ∷ decimal c.0 ∷ codes " requests " ∷ decimal n ∷ [])
+abbrev pub service_text : Option Service → List ℕ
+service_text None = codes "none"
+service_text (Some s) = text (codes "channel " ∷ decimal s.channel.0 ∷ codes " requests " ∷ decimal s.requests ∷ [])
 
 -- a turn: its landing and its service
 abbrev pub turn_text : Turned → List ℕ

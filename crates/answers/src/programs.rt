@@ -1,4 +1,4 @@
-// How programs are written.
+// How programs are written. The text belongs to the answers of a script, so the types of programs do not have it.
 ghost use Rattle.std.specs.Prelude.{Some};
 ghost use Rattle.program.specs.Pieces.{span};
 ghost use Rattle.answers.specs.Texts.{mode_text, span_text, words_text, program_text};

@@ -1,13 +1,11 @@
 ghost use Rattle.std.specs.Prelude.{◌≡◌};
-ghost use Rattle.answers.specs.Replies.{refused_reply, program_reply, pieces_reply, sent_reply, taken_reply, answer_reply, status_reply};
+ghost use Rattle.answers.specs.Replies.{refused_reply, taken_reply, answer_reply, status_reply};
 
 use machine::answer::{Answer, Turned};
-use memory::fault::MemoryFault;
 use memory::request::Taken;
 use numbers::channel::Channel;
 use numbers::layer::Layer;
 use numbers::refusal::Refusal;
-use program::fault::ProgramFault;
 use program::kind::Program;
 
 // What a refusal tells, whatever layer it comes from.
@@ -43,8 +41,8 @@ pub enum Reply {
 }
 
 impl Reply {
-    pub fn refused<R: Refusal>(refusal: &R) -> Reply
-        ensures { result ≡ refused_reply (R.Refusal.told refusal.now) }
+    pub fn refused<R: Refusal + Copy>(refusal: R) -> Reply
+        ensures { result ≡ refused_reply (R.Refusal.told refusal) }
     {
         Reply::Refused(Refused {
             number: refusal.number(),
@@ -53,66 +51,40 @@ impl Reply {
         })
     }
 
-    // The answer to `program`, by what the reading of the words gave.
-    pub fn program(read: Result<Program, ProgramFault>) -> Reply
-        ensures { result ≡ program_reply read }
-    {
-        match read {
-            Ok(program) => Reply::Program(program),
-            Err(fault) => Reply::refused(&fault),
-        }
-    }
-
-    // The answer to `pieces`, by what the reading of the words gave.
-    pub fn pieces(read: Result<Program, ProgramFault>) -> Reply
-        ensures { result ≡ pieces_reply read }
-    {
-        match read {
-            Ok(program) => Reply::Pieces(program),
-            Err(fault) => Reply::refused(&fault),
-        }
-    }
-
-    pub fn sent(sent: Result<(), MemoryFault>) -> Reply
-        ensures { result ≡ sent_reply sent }
-    {
-        match sent {
-            Ok(()) => Reply::Sent,
-            Err(fault) => Reply::refused(&fault),
-        }
-    }
-
-    pub fn taken(taken: Taken) -> Reply
-        ensures { result ≡ taken_reply taken }
-    {
-        match taken {
-            Taken::Nothing => Reply::Nothing,
-            Taken::NotYet => Reply::NotYet,
-            Taken::Reply(Some(word)) => Reply::Word(word),
-            Taken::Reply(None) => Reply::NoWord,
-        }
-    }
-
-    // The answer to a call of a mover other than status.
-    pub fn answered(answer: Answer) -> Reply
-        ensures { result ≡ answer_reply answer }
-    {
-        match answer {
-            Answer::Refused(fault) => Reply::refused(&fault),
-            Answer::Done => Reply::Done,
-            Answer::Given(channel) => Reply::Channel(channel),
-            Answer::Word(word) => Reply::Word(word),
-            Answer::Turned(turned) => Reply::Turned(turned),
-        }
-    }
-
     // The answer to status: its word is a status word.
     pub fn status(answer: Answer) -> Reply
         ensures { result ≡ status_reply answer }
     {
         match answer {
             Answer::Word(word) => Reply::Status(word),
-            other => Reply::answered(other),
+            other => Reply::from(other),
+        }
+    }
+}
+
+impl From<Taken> for Reply {
+    ghost from_gives = { λ taken r. r ≡ taken_reply taken };
+
+    fn from(taken: Taken) -> Reply {
+        match taken {
+            Taken::Nothing => Reply::Nothing,
+            Taken::NotYet => Reply::NotYet,
+            Taken::Reply(reply) => reply.map_or(Reply::NoWord, Reply::Word),
+        }
+    }
+}
+
+// The answer to a call of a mover other than status.
+impl From<Answer> for Reply {
+    ghost from_gives = { λ answer r. r ≡ answer_reply answer };
+
+    fn from(answer: Answer) -> Reply {
+        match answer {
+            Answer::Refused(fault) => Reply::refused(fault),
+            Answer::Done => Reply::Done,
+            Answer::Given(channel) => Reply::Channel(channel),
+            Answer::Word(word) => Reply::Word(word),
+            Answer::Turned(turned) => Reply::Turned(turned),
         }
     }
 }

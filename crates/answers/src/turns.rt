@@ -1,4 +1,4 @@
-// How a turn is written.
+// How a turn is written. The text belongs to the answers of a script, so the types of turns do not have it.
 ghost use Rattle.std.specs.Prelude.{Some};
 ghost use Rattle.answers.specs.Texts.{landing_text, service_text, turn_text};
 
@@ -30,18 +30,18 @@ impl fmt::Display for ShownLanding {
 }
 
 #[derive(Clone, Copy)]
-pub struct ShownService(pub Service);
+pub struct ShownService(pub Option<Service>);
 
 impl fmt::Display for ShownService {
     ghost output = { λ x. Some (service_text x.0) };
 
     fn fmt<W: fmt::Write>(&self, f: &mut fmt::Formatter<W>) -> fmt::Result {
         match self.0 {
-            Service::Nothing => write!(f, "none"),
-            Service::Sent(channel, requests) => write!(
+            None => write!(f, "none"),
+            Some(service) => write!(
                 f,
-                "channel {} requests {requests}",
-                channel.0
+                "channel {} requests {}",
+                service.channel.0, service.requests
             ),
         }
     }

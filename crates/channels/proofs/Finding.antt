@@ -1,33 +1,32 @@
--- Searches of the records and of a window.
-use Rattle.std.proofs.Common.{◌≡◌, ℕ, zero, suc, ◌+◌, ◌-◌, ◌<◌, ◌≤◌, Bool, true, false, cond, not, List, [], ◌∷◌, get_or, is_some, Some, None, Option, refl, ap, ◌∙◌, arith}
-use Rattle.std.proofs.lemmas.Bool.{cond-true, cond-false}
-use Rattle.std.specs.Option.{option_map}
-use Rattle.numbers.specs.Search.{first_index}
+-- Searches of the records and of a window, by the library's search of a list.
+use Rattle.std.proofs.Common.{◌≡◌, ℕ, zero, suc, ◌+◌, ◌≤◌, Bool, not, cond, List, [], ◌∷◌, length, get_or, take, drop, position, Some, None, Option, refl, ap, arith, drop-cons}
+use Rattle.std.proofs.lemmas.Bool.Decides.{nat_tests}
+use Rattle.std.specs.Option.{option_map, is_none}
 use Rattle.machine.specs.Calls.{lowest_free, first_empty}
 use Rattle.machine.specs.Means.{Window}
 use Rattle.machine.specs.declared.record.Record.{Record}
 
-abbrev pub is_free : Record → Bool
-is_free r = not r.flags.reserved
+-- the first element, or one of the others
+position_cons : {X : Type 0} (test : X → Bool) (x : X) (xs : List X) → position test (x ∷ xs) ≡ cond (test x) (Some 0) (option_map suc (position test xs))
+position_cons test x xs = grind (arith, nat_tests)
 
-turned : {X : Type 0} (b : Bool) (x y : X) → cond b y x ≡ cond (not b) x y
-turned true x y = refl
-turned false x y = refl
+pub lowest_is_position : (rs : List Record) → lowest_free rs ≡ position (λ r. not r.flags.reserved) rs
+lowest_is_position [] = refl
+lowest_is_position (r ∷ rs) =
+    let first = position_cons (λ (s : Record). not s.flags.reserved) r rs in
+    let rest = lowest_is_position rs in
+    grind (arith, nat_tests)
 
-pub lowest_is_first : (rs : List Record) → lowest_free rs ≡ first_index is_free rs
-lowest_is_first [] = refl
-lowest_is_first (r ∷ rs) = turned r.flags.reserved (Some 0) (option_map suc (lowest_free rs)) ∙ ap (λ (o : Option ℕ). cond (is_free r) (Some 0) (option_map suc o)) (lowest_is_first rs)
+shifted : (p : ℕ) (o : Option ℕ) → option_map (λ i. p + 1 + i) o ≡ option_map (λ i. p + i) (option_map suc o)
+shifted p None = refl
+shifted p (Some i) = ap Some (omega arith)
 
--- one place at a time
-empty_opened : (last p : ℕ) (window : Window) → p ≤ last
-    → first_empty (last + 1 - p) p window ≡ cond (is_some (get_or window p None)) (first_empty (last + 1 - (p + 1)) (p + 1) window) (Some p)
-empty_opened last p window more = let e : last + 1 - p ≡ suc (last + 1 - (p + 1)) = omega arith in ap (λ (n : ℕ). first_empty n p window) e
-
-pub empty_more : (last p : ℕ) (window : Window) → p ≤ last → is_some (get_or window p None) ≡ true → first_empty (last + 1 - p) p window ≡ first_empty (last + 1 - (p + 1)) (p + 1) window
-empty_more last p window more some = empty_opened last p window more ∙ cond-true _ _ _ some
-
-pub empty_stop : (last p : ℕ) (window : Window) → p ≤ last → is_some (get_or window p None) ≡ false → first_empty (last + 1 - p) p window ≡ Some p
-empty_stop last p window more none = empty_opened last p window more ∙ cond-false _ _ _ none
-
-pub empty_all : (last p : ℕ) (window : Window) → last < p → first_empty (last + 1 - p) p window ≡ None
-empty_all last p window past = let e : last + 1 - p ≡ zero = omega arith in ap (λ (n : ℕ). first_empty n p window) e
+pub empty_is_position : (n p : ℕ) (window : Window) → p + n ≤ length window
+    → first_empty n p window ≡ option_map (λ i. p + i) (position (λ place. is_none place) (take n (drop p window)))
+empty_is_position zero p window within = refl
+empty_is_position (suc n) p window within =
+    let rest = empty_is_position n (p + 1) window (omega arith) in
+    let later = shifted p (position (λ (place : Option ℕ). is_none place) (take n (drop (p + 1) window))) in
+    let first = position_cons (λ (place : Option ℕ). is_none place) (get_or window p None) (take n (drop (p + 1) window)) in
+    let same : p + 1 ≡ suc p = omega arith in
+    rw (drop-cons window p None (omega arith), ← same, first) (grind (arith, nat_tests))

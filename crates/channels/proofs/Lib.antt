@@ -1,4 +1,2 @@
 pub mod Finding
-pub mod Fresh
-pub mod Keeping
 pub mod Starting

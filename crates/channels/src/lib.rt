@@ -1,4 +1,4 @@
-// The sixteen channels: what a mover keeps of them, and the ten calls that do not reach the hall memory.
+// The sixteen channels: what a mover keeps of them, and the calls on it that do not reach the hall memory.
 #![tactic(auto)]
 
 pub mod calls;

@@ -1,7 +1,5 @@
 ghost use Rattle.std.specs.Prelude.{◌≡◌};
-ghost use Rattle.machine.specs.Means.{mean_of};
-ghost use Rattle.machine.specs.Soundness.{new_mean};
-ghost use Rattle.channels.specs.Standing.{StateSound};
+ghost use Rattle.machine.specs.Soundness.{new_state};
 
 use crate::records::empty_record;
 use machine::piece::Piece;
@@ -12,8 +10,7 @@ use queue::line::Queue;
 
 // The state of a new mover: all channels free, all windows empty, nothing waits, nothing is in flight.
 pub fn new_state() -> State
-    ensures sound { StateSound result }
-    ensures state { mean_of result ≡ new_mean }
+    ensures { result ≡ new_state }
 {
     let records = [empty_record(false); 16];
     State {

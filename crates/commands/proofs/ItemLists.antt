@@ -1,5 +1,6 @@
 -- Items one after another, of which no more than 65,537 are told.
 use Rattle.std.proofs.Common.{◌≡◌, ℕ, zero, suc, ◌+◌, ◌-◌, ◌<◌, ◌≤◌, min, List, [], ◌∷◌, ◌++◌, length, take, replicate, Some, None, Option, sym, refl, ap, ◌∙◌, ⊎_elim, append_assoc, append-nil, arith, length-take}
+use Rattle.std.proofs.Math.Seq.{take-append-add}
 use lib.ListN.{length-replicate}
 use Rattle.std.proofs.lemmas.List.{take_all, take-replicate}
 use Rattle.std.proofs.lemmas.Bool.{cases_lt}
@@ -7,12 +8,9 @@ use Rattle.commands.specs.Lists.{followed, with_item}
 
 module _ {A : Type 0} where
   take_over : (m : ℕ) (xs ys : List A) → length xs ≤ m → take m (xs ++ ys) ≡ xs ++ take (m - length xs) ys
-  take_over zero [] ys h = refl
-  take_over zero (x ∷ xs) ys h = absurd (omega arith)
-  take_over (suc m) [] ys h = let all : suc m ≡ suc m - 0 = omega arith in ap (λ (k : ℕ). take k ys) all
-  take_over (suc m) (x ∷ xs) ys h =
-      let less : m - length xs ≡ suc m - suc (length xs) = omega arith in
-      ap (λ (l : List A). x ∷ l) (take_over m xs ys (omega arith) ∙ ap (λ (k : ℕ). xs ++ take k ys) less)
+  take_over m xs ys h =
+      let all : m ≡ length xs + (m - length xs) = omega arith in
+      ap (λ (k : ℕ). take k (xs ++ ys)) all ∙ take-append-add xs ys (m - length xs)
 
   take_again : (m : ℕ) (xs ys : List A) → take m (take m xs ++ ys) ≡ take m (xs ++ ys)
   take_again zero xs ys = refl

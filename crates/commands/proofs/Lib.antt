@@ -2,5 +2,5 @@ mod Named
 mod Exits
 mod Digits
 mod Cuts
-mod FieldLists
 mod ItemLists
+mod FieldLists

@@ -1,6 +1,6 @@
 -- Readers. A reader takes the bytes that are left of a line; it gives what their first fields spell and the bytes that are left
 -- behind these fields, or none.
-use Rattle.std.specs.Prelude.{◌≡◌, ℕ, Bool, false, cond, ◌||◌, List, [], ◌∷◌, is_some, Some, None, Option}
+use Rattle.std.specs.Prelude.{◌≡◌, ℕ, Bool, true, false, cond, ◌||◌, List, [], ◌∷◌, is_some, Some, None, Option}
 use Rattle.std.specs.Str.{bytes_eq}
 use Rattle.reading.specs.Decimal.{first_number}
 use Rattle.reading.specs.Fields.{first_field, after_field}
@@ -78,3 +78,8 @@ ReadsAs mean wanted None rest = wanted ≡ None
 
 abbrev pub Reads : {A : Type 0} → Option (A × List ℕ) → Option A → List ℕ → Type 0
 Reads = ReadsAs (λ x. x)
+
+-- r is what a table gives for a name; without a value there is no such name in the table, and nothing was read
+abbrev pub Finds : {A : Type 0} → List (List ℕ × Reader A) → List ℕ → List ℕ → Option (Option A) → List ℕ → Type 0
+Finds rows name bytes (Some r) rest = (has rows name ≡ true) × Reads (named rows name bytes) r rest
+Finds rows name bytes None rest = (has rows name ≡ false) × (named rows name bytes ≡ None) × (rest ≡ bytes)

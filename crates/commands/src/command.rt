@@ -3,7 +3,6 @@ ghost use Rattle.commands.specs.Commands.{meaning, other_named, command_named, s
 
 use crate::memories::MemoryCommand;
 use crate::movers::MoverCommand;
-use crate::names::is;
 use crate::piles::read_pile;
 use crate::programs::ProgramCommand;
 use crate::trouble::Trouble;
@@ -26,16 +25,15 @@ impl Command {
     fn read_other(heap: Global, name: &[u8], fields: &mut Fields) -> Result<Command, Trouble>
         ensures { Spells (λ x. (meaning x, fields.new.rest.now)) (other_named name.now fields.old.rest.now) result }
     {
-        if ProgramCommand::has(name) {
-            let command = ProgramCommand::read(name, fields).ok_or(Trouble::BadLine)?;
-            Ok(Command::Programs(command))
-        } else if MemoryCommand::has(name) {
-            let command = MemoryCommand::read(name, fields).ok_or(Trouble::BadLine)?;
-            Ok(Command::Memory(command))
-        } else if is(name, b"mover") {
-            Ok(Command::MakeMover)
-        } else {
-            Ok(Command::Mover(MoverCommand::read(heap, name, fields)?))
+        if let Some(command) = ProgramCommand::read(name, fields) {
+            return Ok(Command::Programs(command.ok_or(Trouble::BadLine)?));
+        }
+        if let Some(command) = MemoryCommand::read(name, fields) {
+            return Ok(Command::Memory(command.ok_or(Trouble::BadLine)?));
+        }
+        match name {
+            b"mover" => Ok(Command::MakeMover),
+            _ => Ok(Command::Mover(MoverCommand::read(heap, name, fields)?)),
         }
     }
 
@@ -47,7 +45,7 @@ impl Command {
     ) -> Result<(Command, &'a [u8]), Trouble>
         ensures { Spells (λ x. (meaning x.0, x.1.now)) (command_named name.now text.now) result }
     {
-        if is(name, b"memory") {
+        if let b"memory" = name {
             let (plan, rest) = read_pile(heap, text)?;
             return Ok((Command::MakeMemory(plan), rest));
         }

@@ -1,5 +1,6 @@
 // The items of a list, as its fields spell them.
-ghost use Rattle.std.specs.Prelude.{◌≡◌, ℕ, ◌≤◌, List, ◌++◌, take, replicate, is_ok, if◌then◌else◌, vec_items, vec_len, Option};
+ghost use Rattle.std.specs.Prelude.{◌≡◌, ℕ, ◌≤◌, List, ◌++◌, take, replicate, is_ok, if◌then◌else◌, vec_items, vec_len, ◌==◌, Option};
+ghost use Rattle.std.specs.List.{position};
 ghost use Rattle.std.specs.Option.{option_map};
 ghost use Rattle.reading.specs.Decimal.{number_of};
 ghost use Rattle.commands.specs.Troubles.{Spells};
@@ -43,16 +44,19 @@ impl Item for Entry {
     }
 }
 
+// Where the first such byte stands.
+fn place_of(bytes: &[u8], mark: u8) -> Option<usize>
+    ensures { result ≡ position (λ b. b == mark) bytes.now }
+{
+    bytes.iter().position(|byte| *byte == mark)
+}
+
 // What stands before the first such byte, and what stands after it.
 pub fn cut(bytes: &[u8], mark: u8) -> Option<(&[u8], &[u8])>
     ensures { option_map (λ parts. (parts.0.now, parts.1.now)) result ≡ up_to mark bytes.now }
 {
-    for (i, byte) in bytes.iter().enumerate() {
-        if *byte == mark {
-            return Some((&bytes[0..i], &bytes[i + 1..]));
-        }
-    }
-    None
+    let place = place_of(bytes, mark)?;
+    Some((&bytes[..place], &bytes[place + 1..]))
 }
 
 // An item, and how often it stands there: X, or X*N.
@@ -88,8 +92,7 @@ pub fn read_list<T: Item>(heap: Global, list: &[u8]) -> Result<Vec<T>, Trouble>
     ensures { Spells vec_items (list_of T.Item.spelled list.now) result }
 {
     let mut items = Vec::new(heap);
-    let mut fields = Fields::new(list);
-    while let Some(field) = fields.next() {
+    for field in Fields::new(list) {
         push_field(&mut items, field)?;
     }
     Ok(items)

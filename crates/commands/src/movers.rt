@@ -12,7 +12,8 @@ use reading::fields::Fields;
 use reading::number::number;
 use std::alloc::Global;
 
-// The numbers are as the line has them: whether a channel or a place is good is for the library to say.
+// The numbers are as the line has them: whether a channel or a place is good is for the library to say. It owns its bytes and
+// counts turns, so it is no call of a run.
 #[derive(Drop)]
 pub enum MoverCommand {
     Reserve,
@@ -34,6 +35,7 @@ fn hexadecimal(byte: u8) -> Option<u8>
     ensures value { result ≡ hex_digit byte }
     ensures small { IfSome result (λ d. d < 16) }
 {
+    // No char::to_digit(16), which takes A to F too.
     match byte {
         b'0'..=b'9' => Some(byte - b'0'),
         b'a'..=b'f' => Some(byte - b'a' + 10),
@@ -72,10 +74,10 @@ fn read_digits(heap: Global, digits: &[u8]) -> Result<Vec<u8>, Trouble>
 fn read_bytes(heap: Global, field: &[u8]) -> Result<Vec<u8>, Trouble>
     ensures { Spells vec_items (fill_bytes field.now) result }
 {
-    if is(field, b"-") {
-        return Ok(Vec::new(heap));
+    match field {
+        b"-" => Ok(Vec::new(heap)),
+        _ => read_digits(heap, field),
     }
-    read_digits(heap, field)
 }
 
 // How many turns: once where the line does not say.
@@ -96,6 +98,7 @@ fn read_turns(fields: &mut Fields) -> Option<u32>
 fn read_call(name: &[u8], fields: &mut Fields) -> Option<MoverCommand>
     ensures { ReadsAs call_of (named calls name.now fields.old.rest.now) result fields.new.rest.now }
 {
+    // No match on the name: its last arm would have 42 ways in, and that no name is left there was not proved.
     if is(name, b"reserve") {
         Some(MoverCommand::Reserve)
     } else if is(name, b"release") {
@@ -134,9 +137,9 @@ impl MoverCommand {
     pub fn read(heap: Global, name: &[u8], fields: &mut Fields) -> Result<MoverCommand, Trouble>
         ensures { Spells (λ x. (call_of x, fields.new.rest.now)) (call_named name.now fields.old.rest.now) result }
     {
-        if is(name, b"fill") {
-            return read_fill(heap, fields);
+        match name {
+            b"fill" => read_fill(heap, fields),
+            _ => read_call(name, fields).ok_or(Trouble::BadLine),
         }
-        read_call(name, fields).ok_or(Trouble::BadLine)
     }
 }

@@ -17,8 +17,5 @@ pub fn next_is(fields: &mut Fields, name: &[u8]) -> bool
     ensures value { result ≡ first_is name.now (first_field fields.old.rest.now) }
     ensures rest { fields.new.rest.now ≡ after_field fields.old.rest.now }
 {
-    match fields.next() {
-        None => false,
-        Some(field) => is(field, name),
-    }
+    fields.next().is_some_and(|field| is(field, name))
 }

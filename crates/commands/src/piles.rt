@@ -6,7 +6,7 @@ ghost use Rattle.commands.specs.Troubles.{Spells};
 ghost use Rattle.commands.specs.Piles.{base_of, shared_of, pile_of, base_named, base, shared, pile as pile_read};
 
 use crate::lists::{cut, read_list};
-use crate::names::{is, next_is};
+use crate::names::next_is;
 use crate::trouble::Trouble;
 use pile::plan::{BasePlan, PilePlan, SharedPlan};
 use reading::fields::Fields;
@@ -25,12 +25,10 @@ fn only_field(text: &[u8]) -> Option<&[u8]>
 fn read_named(heap: Global, name: &[u8], list: &[u8]) -> Result<BasePlan, Trouble>
     ensures { Spells base_of (base_named name.now list.now) result }
 {
-    if is(name, b"flat") {
-        Ok(BasePlan::Flat(read_list(heap, list)?))
-    } else if is(name, b"catalogue") {
-        Ok(BasePlan::Catalogue(read_list(heap, list)?))
-    } else {
-        Err(Trouble::BadLine)
+    match name {
+        b"flat" => Ok(BasePlan::Flat(read_list(heap, list)?)),
+        b"catalogue" => Ok(BasePlan::Catalogue(read_list(heap, list)?)),
+        _ => Err(Trouble::BadLine),
     }
 }
 

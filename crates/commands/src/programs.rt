@@ -1,9 +1,8 @@
-ghost use Rattle.std.specs.Prelude.{◌≡◌, codes};
-ghost use Rattle.commands.specs.Readers.{Reads, named, has};
+ghost use Rattle.std.specs.Prelude.{codes};
+ghost use Rattle.commands.specs.Readers.{Reads, Finds, named};
 ghost use Rattle.commands.specs.Commands.{programs};
 
 use crate::choices::read_operator;
-use crate::names::is;
 use crate::words::read_words;
 use operators::choice::Choice;
 use program::layout::Words;
@@ -25,25 +24,15 @@ fn read_join(fields: &mut Fields) -> Option<ProgramCommand>
 }
 
 impl ProgramCommand {
-    // Whether such a command has this name.
-    pub(crate) fn has(name: &[u8]) -> bool
-        ensures { result ≡ has programs name.now }
+    // What the fields spell as the arguments of this name, or none where no such command has the name.
+    pub fn read(name: &[u8], fields: &mut Fields) -> Option<Option<ProgramCommand>>
+        ensures { Finds programs name.now fields.old.rest.now result fields.new.rest.now }
     {
-        is(name, b"program") || is(name, b"pieces") || is(name, b"join")
-    }
-
-    // The command of this name, with its arguments from the fields, or none.
-    pub fn read(name: &[u8], fields: &mut Fields) -> Option<ProgramCommand>
-        ensures { Reads (named programs name.now fields.old.rest.now) result fields.new.rest.now }
-    {
-        if is(name, b"program") {
-            Some(ProgramCommand::Program(read_words(fields)?))
-        } else if is(name, b"pieces") {
-            Some(ProgramCommand::Pieces(read_words(fields)?))
-        } else if is(name, b"join") {
-            read_join(fields)
-        } else {
-            None
-        }
+        Some(match name {
+            b"program" => read_words(fields).map(ProgramCommand::Program),
+            b"pieces" => read_words(fields).map(ProgramCommand::Pieces),
+            b"join" => read_join(fields),
+            _ => return None,
+        })
     }
 }

@@ -9,6 +9,7 @@ use std::io;
 #[derive(Drop)]
 pub enum Trouble {
     // it is no command, or asks for what is not there; nothing was changed or written
+    // (named by ok_or where a reader found nothing, since `?` makes no Err of a None)
     BadLine,
     // there was no memory for it, or its answer could not be written
     Stopped(io::Error),

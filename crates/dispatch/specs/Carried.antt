@@ -9,15 +9,12 @@ use Rattle.memory.specs.declared.fault.MemoryFault.{MemoryFault}
 use Rattle.memory.specs.declared.interface.HallMemory.{Ghosts}
 use Rattle.memory.specs.declared.request.Request.{Request}
 use Rattle.memory.specs.declared.request.Taken.{Taken}
-use Rattle.machine.specs.Laws.{Keeps, Opens}
-use Rattle.machine.specs.Means.{Mean}
-use Rattle.machine.specs.Soundness.{new_mean}
+use Rattle.machine.specs.Laws.{Opens}
+use Rattle.machine.specs.Soundness.{new_state}
 use Rattle.machine.specs.Steps as defined
 use Rattle.machine.specs.declared.answer.Answer.{Answer}
 use Rattle.mover.specs.Making.{mover_check}
-use Rattle.mover.specs.Meaning.{mean, hall_view}
-use Rattle.mover.specs.declared.mover.Mover as mover
-use Rattle.pile.specs.Piles.{Pile, pile_view}
+use Rattle.mover.specs.Meaning.{Whole, Moves}
 use Rattle.pile.specs.Plans.{Planned, pile_planned}
 use Rattle.commands.specs.declared.command.Command.{Command}
 use Rattle.commands.specs.declared.command.Command.TheVariants as command
@@ -32,7 +29,7 @@ use Rattle.commands.specs.declared.trouble.Trouble.TheVariants.{BadLine}
 use Rattle.answers.specs.Replies.{refused_reply, program_reply, pieces_reply, sent_reply, taken_reply, answer_reply, status_reply}
 use Rattle.answers.specs.declared.reply.Reply.{Reply}
 use Rattle.answers.specs.declared.reply.Reply.TheVariants as reply
-use Rattle.dispatch.specs.Halls.{pile_hall, IsMemory, IsMover}
+use Rattle.dispatch.specs.Halls.{IsMemory, IsMover}
 use Rattle.dispatch.specs.declared.hall.Hall.{Hall}
 use Rattle.dispatch.specs.declared.hall.Hall.TheVariants.{Empty, Memory, Mover}
 
@@ -86,9 +83,9 @@ Asks hall command r (Mover s) after = Missing r (Mover s) after
 -- A MOVER OVER THE MEMORY
 
 -- a new mover over the same memory, which begins an empty run
-pub record Fresh {M : Type 0} (hall : Ghosts M) (memory : M) (s : mover.Mover M) : Type 0 where
-  pub state : mean s ≡ new_mean
-  pub opens : Opens (mean s) (hall_view hall s)
+pub record Fresh {M : Type 0} (hall : Ghosts M) (memory : M) (s : Whole M) : Type 0 where
+  pub state : s.state ≡ new_state
+  pub opens : Opens s.state (hall.view s.memory)
   pub memory_same : s.memory ≡ memory
 
 -- by the check of the memory: a new mover, or the refusal and the memory as it was
@@ -133,30 +130,30 @@ call_reply (defined.status c) a = status_reply a
 call_reply defined.turn a = answer_reply a
 
 -- the call keeps the run and its law, and the reply is that of its answer
-pub record Called (call : defined.Call) (r : Reply) (m : Mean) (v : View) (n : Mean) (w : View) : Type 0 where
+pub record Called {M : Type 0} (hall : Ghosts M) (call : defined.Call) (r : Reply) (before after : Whole M) : Type 0 where
   pub answer : Answer
   pub replied : r ≡ call_reply call answer
-  pub keeps : Keeps call answer m v n w
+  pub keeps : Moves hall call answer before after
 
 -- a mover is called once
 abbrev pub Calls : {M : Type 0} → Ghosts M → defined.Call → Outcome → Hall M → Hall M → Type 0
 Calls hall call r Empty after = Missing r Empty after
 Calls hall call r (Memory m) after = Missing r (Memory m) after
-Calls hall call r (Mover s) after = IsMover (λ t. Replies (λ a. Called call a (mean s) (hall_view hall s) (mean t) (hall_view hall t)) r) after
+Calls hall call r (Mover s) after = IsMover (λ t. Replies (λ a. Called hall call a s t) r) after
 
 -- A NEW MEMORY
 
 -- of what was planned: a memory of that meaning in place of what was there, or the refusal and the hall as it was
-abbrev pub Makes : Planned → Reply → Hall Pile → Hall Pile → Type 0
-Makes (Ok view) r before after = (r ≡ reply.MemoryReady) × IsMemory (λ m. pile_view m ≡ view) after
-Makes (Err fault) r before after = (r ≡ refused_reply (memory_told fault)) × (after ≡ before)
+abbrev pub Makes : {M : Type 0} → Ghosts M → Planned → Reply → Hall M → Hall M → Type 0
+Makes hall (Ok view) r before after = (r ≡ reply.MemoryReady) × IsMemory (λ m. hall.view m ≡ view) after
+Makes hall (Err fault) r before after = (r ≡ refused_reply (memory_told fault)) × (after ≡ before)
 
 -- EVERY COMMAND, a command of several turns as one turn
 
 -- what a command answers, and what is in the hall after it
-abbrev pub CarriesOut : Command → Outcome → Hall Pile → Hall Pile → Type 0
-CarriesOut (command.Programs p) r before after = (r ≡ Ok (alone_reply p)) × (after ≡ before)
-CarriesOut (command.MakeMemory plan) r before after = Replies (λ a. Makes (pile_planned plan) a before after) r
-CarriesOut (command.Memory m) r before after = Asks pile_hall m r before after
-CarriesOut command.MakeMover r before after = HandsOver pile_hall r before after
-CarriesOut (command.Mover c) r before after = Calls pile_hall (asked_by c) r before after
+abbrev pub CarriesOut : {M : Type 0} → Ghosts M → Command → Outcome → Hall M → Hall M → Type 0
+CarriesOut hall (command.Programs p) r before after = (r ≡ Ok (alone_reply p)) × (after ≡ before)
+CarriesOut hall (command.MakeMemory plan) r before after = Replies (λ a. Makes hall (pile_planned plan) a before after) r
+CarriesOut hall (command.Memory m) r before after = Asks hall m r before after
+CarriesOut hall command.MakeMover r before after = HandsOver hall r before after
+CarriesOut hall (command.Mover c) r before after = Calls hall (asked_by c) r before after

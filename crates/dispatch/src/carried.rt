@@ -1,6 +1,6 @@
 ghost use Rattle.pile.specs.Plans.{pile_planned};
 ghost use Rattle.dispatch.specs.Carried.{Makes, CarriesOut};
-ghost use Rattle.dispatch.specs.Halls.{HallSound};
+ghost use Rattle.pile.specs.Piles.{pile_hall};
 
 use crate::hall::Hall;
 use crate::movers::call_of;
@@ -14,24 +14,20 @@ use pile::plan::PilePlan;
 impl Hall<Pile> {
     // Makes a new memory in place of whatever was there. After a refusal that is still there.
     pub fn make(&mut self, plan: PilePlan) -> Reply
-        requires { HallSound self.old }
-        ensures sound { HallSound self.new }
-        ensures makes { Makes (pile_planned plan) result self.old self.new }
+        ensures { Makes pile_hall (pile_planned plan) result self.old self.new }
     {
         match plan.make() {
             Ok(pile) => {
                 *self = Hall::Memory(pile);
                 Reply::MemoryReady
             }
-            Err(fault) => Reply::refused(&fault),
+            Err(fault) => Reply::refused(fault),
         }
     }
 
     // Carries out a command. One that asks for several turns makes one of them.
     pub fn carry_out(&mut self, command: Command) -> Result<Reply, Trouble>
-        requires { HallSound self.old }
-        ensures sound { HallSound self.new }
-        ensures carries_out { CarriesOut command result self.old self.new }
+        ensures { CarriesOut pile_hall command result self.old self.new }
     {
         match command {
             Command::Programs(command) => Ok(programs::carry_out(command)),

@@ -1,6 +1,5 @@
 ghost use Rattle.runs.specs.Asked.{call_of};
 ghost use Rattle.dispatch.specs.Carried.{Asks, Calls, HandsOver};
-ghost use Rattle.dispatch.specs.Halls.{SoundOver};
 
 use crate::{memories, movers};
 use answers::reply::Reply;
@@ -13,7 +12,7 @@ use std::mem::replace;
 
 // What the lines so far have made. A memory that has become a mover's is reached through the mover alone.
 #[derive(Drop)]
-pub enum Hall<M> {
+pub enum Hall<M: HallMemory> {
     Empty,
     Memory(M),
     Mover(Mover<M>),
@@ -21,14 +20,12 @@ pub enum Hall<M> {
 
 // The hall after the memory is handed over to a new mover, and the answer. What cannot be handed over is given back.
 fn handed<M: HallMemory>(hall: Hall<M>) -> (Hall<M>, Result<Reply, Trouble>)
-    requires { SoundOver M.HallMemory hall }
-    ensures sound { SoundOver M.HallMemory result.0 }
-    ensures hands_over { HandsOver M.HallMemory result.1 hall result.0 }
+    ensures { HandsOver M.HallMemory result.1 hall result.0 }
 {
     match hall {
         Hall::Memory(memory) => match Mover::check(&memory) {
             Ok(()) => (Hall::Mover(Mover::new(memory)), Ok(Reply::MoverReady)),
-            Err(fault) => (Hall::Memory(memory), Ok(Reply::refused(&fault))),
+            Err(fault) => (Hall::Memory(memory), Ok(Reply::refused(fault))),
         },
         other => (other, Err(Trouble::BadLine)),
     }
@@ -37,9 +34,7 @@ fn handed<M: HallMemory>(hall: Hall<M>) -> (Hall<M>, Result<Reply, Trouble>)
 impl<M: HallMemory + Drop> Hall<M> {
     // Carries out a command on the memory.
     pub fn ask(&mut self, command: MemoryCommand) -> Result<Reply, Trouble>
-        requires { SoundOver M.HallMemory self.old }
-        ensures sound { SoundOver M.HallMemory self.new }
-        ensures asks { Asks M.HallMemory command result self.old self.new }
+        ensures { Asks M.HallMemory command result self.old self.new }
     {
         match self {
             Hall::Memory(memory) => Ok(memories::carry_out(memory, command)),
@@ -49,9 +44,7 @@ impl<M: HallMemory + Drop> Hall<M> {
 
     // Hands the memory over to a new mover. After a refusal the memory is still there.
     pub fn hand_over(&mut self) -> Result<Reply, Trouble>
-        requires { SoundOver M.HallMemory self.old }
-        ensures sound { SoundOver M.HallMemory self.new }
-        ensures hands_over { HandsOver M.HallMemory result self.old self.new }
+        ensures { HandsOver M.HallMemory result self.old self.new }
     {
         let (hall, outcome) = handed(replace(self, Hall::Empty));
         *self = hall;
@@ -60,9 +53,7 @@ impl<M: HallMemory + Drop> Hall<M> {
 
     // Carries out one call of the mover.
     pub fn call(&mut self, call: Call<'_>) -> Result<Reply, Trouble>
-        requires { SoundOver M.HallMemory self.old }
-        ensures sound { SoundOver M.HallMemory self.new }
-        ensures calls { Calls M.HallMemory (call_of call.entry) result self.old self.new }
+        ensures { Calls M.HallMemory (call_of call.entry) result self.old self.new }
     {
         match self {
             Hall::Mover(mover) => Ok(movers::carry_out(mover, call)),

@@ -6,13 +6,13 @@ use memory::interface::HallMemory;
 
 // Carries out a command on a memory.
 pub fn carry_out<M: HallMemory>(memory: &mut M, command: MemoryCommand) -> Reply
-    requires { M.HallMemory.sound memory.old }
-    ensures sound { M.HallMemory.sound memory.new }
-    ensures asks { AsksMemory command result (M.HallMemory.view memory.old) (M.HallMemory.view memory.new) }
+    ensures { AsksMemory command result (M.HallMemory.view memory.old) (M.HallMemory.view memory.new) }
 {
     match command {
-        MemoryCommand::Send(request) => Reply::sent(memory.send(request)),
-        MemoryCommand::Take => Reply::taken(memory.take()),
+        MemoryCommand::Send(request) => memory
+            .send(request)
+            .map_or_else(Reply::refused, |()| Reply::Sent),
+        MemoryCommand::Take => memory.take().into(),
         MemoryCommand::Waiting => Reply::Waiting(memory.waiting()),
     }
 }

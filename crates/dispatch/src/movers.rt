@@ -1,5 +1,4 @@
 ghost use Rattle.std.specs.Prelude.{◌≡◌};
-ghost use Rattle.mover.specs.Meaning.{mean, hall_view, MoverSound};
 ghost use Rattle.runs.specs.Asked.{call_of};
 ghost use Rattle.dispatch.specs.Carried.{asked_by, Called};
 
@@ -10,7 +9,7 @@ use mover::mover::Mover;
 use runs::call::Call;
 use runs::run;
 
-// The call that a command makes. A command may make it several times.
+// The call that a command makes. A command may make it several times. Neither type is of this crate, so this is no From.
 pub fn call_of(command: &MoverCommand) -> Call<'_>
     ensures { call_of result ≡ asked_by command.now }
 {
@@ -31,13 +30,11 @@ pub fn call_of(command: &MoverCommand) -> Call<'_>
 
 // Carries out one call of a mover.
 pub fn carry_out<M: HallMemory>(mover: &mut Mover<M>, call: Call<'_>) -> Reply
-    requires { MoverSound M.HallMemory mover.old }
-    ensures sound { MoverSound M.HallMemory mover.new }
-    ensures called { Called (call_of call.entry) result (mean mover.old) (hall_view M.HallMemory mover.old) (mean mover.new) (hall_view M.HallMemory mover.new) }
+    ensures { Called M.HallMemory (call_of call.entry) result mover.old mover.new }
 {
     let answer = run::carry_out(mover, call);
     match call {
         Call::Status(_) => Reply::status(answer),
-        _ => Reply::answered(answer),
+        _ => answer.into(),
     }
 }

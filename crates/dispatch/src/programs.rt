@@ -11,8 +11,12 @@ pub fn carry_out(command: ProgramCommand) -> Reply
     ensures { result ≡ alone_reply command }
 {
     match command {
-        ProgramCommand::Program(words) => Reply::program(Program::read(words)),
-        ProgramCommand::Pieces(words) => Reply::pieces(Program::read(words)),
+        ProgramCommand::Program(words) => {
+            Program::read(words).map_or_else(Reply::refused, Reply::Program)
+        }
+        ProgramCommand::Pieces(words) => {
+            Program::read(words).map_or_else(Reply::refused, Reply::Pieces)
+        }
         ProgramCommand::Join(choice, x, y) => Reply::Word(choice.join(x, y)),
     }
 }

@@ -5,10 +5,10 @@ use numbers::place::Place;
 
 #[test]
 fn numbers_at_their_limits(rt: HostRuntime) {
-    assert_eq!(rt; Channel::checked(15), Some(Channel(15)));
-    assert_eq!(rt; Channel::checked(16), None);
-    assert_eq!(rt; Place::checked(255), Some(Place(255)));
-    assert_eq!(rt; Place::checked(256), None);
+    assert_eq!(rt; Channel::try_from(15u32).ok(), Some(Channel(15)));
+    assert_eq!(rt; Channel::try_from(16u32).ok(), None);
+    assert_eq!(rt; Place::try_from(255u32).ok(), Some(Place(255)));
+    assert_eq!(rt; Place::try_from(256u32).ok(), None);
 }
 
 #[test]

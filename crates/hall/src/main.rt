@@ -5,8 +5,6 @@
 #[cfg(test)]
 mod tests;
 
-ghost use Rattle.dispatch.specs.Halls.{HallSound};
-
 use session::script::Script;
 use std::io;
 use std::io::{BufWriter, ErrorKind, Read, Write};
@@ -24,10 +22,7 @@ fn answer_chunk<R: Read, W: Write>(
     chunk: &mut Vec<u8>,
     script: &mut Script,
     out: &mut W,
-) -> io::Result<bool>
-    requires { HallSound script.old.session.hall }
-    ensures { HallSound script.new.session.hall }
-{
+) -> io::Result<bool> {
     match input.read(chunk.as_mut_slice()) {
         Ok(0) => Ok(false),
         Ok(count) => {

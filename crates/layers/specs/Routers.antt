@@ -1,9 +1,8 @@
 -- The router, by its bit, the sides that owe the replies, and the meanings of its two sides.
-use Rattle.std.specs.Prelude.{◌≡◌, ℕ, suc, ◌/◌, ◌%◌, ◌^◌, ◌<◌, ◌≤◌, cond, ◌||◌, List, [], ◌∷◌, ◌++◌, length, drop, None, Ok, Err, Option, Result, ◌==◌, nat_lt, slice_index_or}
+use Rattle.std.specs.Prelude.{◌≡◌, ℕ, suc, ◌/◌, ◌%◌, ◌^◌, ◌<◌, cond, ◌&&◌, ◌||◌, List, [], ◌∷◌, ◌++◌, length, drop, None, Ok, Err, Option, Result, ◌==◌, nat_le, nat_lt, slice_index_or}
 use Rattle.operators.specs.Modes.{wants_reply}
-use Rattle.queue.specs.Queues.{items, Sound}
-use Rattle.queue.specs.declared.line.Queue.{Queue}
-use Rattle.memory.specs.Views.{View}
+use Rattle.queue.specs.declared.full.Full.{Full}
+use Rattle.memory.specs.Views.{View, room}
 use Rattle.memory.specs.declared.fault.MemoryFault.{MemoryFault}
 use Rattle.memory.specs.declared.fault.MemoryFault.TheVariants.{BitNumber, InTransit}
 use Rattle.memory.specs.declared.request.Request.{Request}
@@ -42,6 +41,10 @@ rights [] = 0
 rights (Left ∷ order) = rights order
 rights (Right ∷ order) = suc (rights order)
 
+-- a reply is owed wherever one is wanted, unless no more may be in transit
+abbrev pub owing : Request → List Side → Result (Unit {0}) Full
+owing q order = cond (wants_reply q.action && nat_le room (length order)) (Err (record {})) (Ok tt)
+
 -- the order after a request of a cell on this side that is not refused
 abbrev pub order_after : Request → Side → List Side → List Side
 order_after q side order = cond (wants_reply q.action) (order ++ side ∷ []) order
@@ -68,12 +71,6 @@ router_view bit order left right = record {
 pub record Tied (order : List Side) (left right : View) : Type 0 where
   pub left_owes : lefts order ≡ length left.transit
   pub right_owes : rights order ≡ length right.transit
-
--- what a router keeps, besides that its sides are sound
-pub record SoundRouter (bit : ℕ) (order : Queue Side 32) (left right : View) : Type 0 where
-  pub bit_within : bit ≤ 31
-  pub order_sound : Sound order
-  pub tied : Tied (items order) left right
 
 -- check 44: the bit is at most 31; check 45: neither side has replies in transit
 abbrev pub router_check : View → View → ℕ → Result (Unit {0}) MemoryFault

@@ -1,7 +1,5 @@
-ghost use Rattle.std.specs.Prelude.{◌≡◌, ◌≤◌, not, ◌&&◌, [], length, if◌then◌else◌, Ok, nat_le};
-ghost use Rattle.operators.specs.Modes.{wants_reply};
-ghost use Rattle.queue.specs.Queues.{items, Sound};
-ghost use Rattle.layers.specs.Routers.{side_of, router_view, router_check, order_after, order_taken, SoundRouter, OneSide};
+ghost use Rattle.std.specs.Prelude.{◌≡◌, ◌≤◌, [], length, if◌then◌else◌, is_ok, Ok};
+ghost use Rattle.layers.specs.Routers.{side_of, router_view, router_check, owing, order_after, order_taken, Tied, OneSide};
 ghost use Rattle.memory.specs.Views.{room};
 ghost use Rattle.std.proofs.Common.{arith};
 ghost use Rattle.std.proofs.lemmas.Bool.Decides.{nat_tests};
@@ -11,6 +9,7 @@ use memory::fault::MemoryFault;
 use memory::interface::HallMemory;
 use memory::request::{Request, Taken};
 use numbers::cell::Cell;
+use queue::full::Full;
 use queue::line::Queue;
 
 // One of the two memories of a router.
@@ -22,18 +21,20 @@ enum Side {
 
 // A layer over two memories: a cell lies, under the same number, in the right one when its number has this bit set, else in the left one.
 #[derive(Drop)]
-pub struct Router<L, R> {
+pub struct Router<L: HallMemory, R: HallMemory> {
     left: L,
     right: R,
     bit: u32,
     // the side that owes each reply in transit, the first one first
     order: Queue<Side, 32>,
+    ghost within: { bit ≤ 31 },
+    ghost few: { length order ≤ room },
+    ghost tied: { Tied order (L.HallMemory.view left) (R.HallMemory.view right) },
 }
 
 impl<L: HallMemory, R: HallMemory> Router<L, R> {
     // Refuses a bit that no cell number has, and a side with replies in transit, whose place among the requests nothing tells.
     pub fn check(left: &L, right: &R, bit: u32) -> Result<(), MemoryFault>
-        requires { L.HallMemory.sound left.now × R.HallMemory.sound right.now }
         ensures { result ≡ router_check (L.HallMemory.view left.now) (R.HallMemory.view right.now) bit }
     {
         if bit > 31 {
@@ -47,11 +48,9 @@ impl<L: HallMemory, R: HallMemory> Router<L, R> {
 
     // The router over these two memories. The check was passed before.
     pub fn new(left: L, right: R, bit: u32) -> Router<L, R>
-        requires checked { router_check (L.HallMemory.view left) (R.HallMemory.view right) bit ≡ Ok tt }
-        requires sound { L.HallMemory.sound left × R.HallMemory.sound right }
-        ensures sound { L.HallMemory.sound result.left × R.HallMemory.sound result.right × SoundRouter result.bit result.order (L.HallMemory.view result.left) (R.HallMemory.view result.right) }
-        ensures view { router_view result.bit (items result.order) (L.HallMemory.view result.left) (R.HallMemory.view result.right) ≡ router_view bit [] (L.HallMemory.view left) (R.HallMemory.view right) }
-        ensures lies { OneSide bit (router_view result.bit (items result.order)) }
+        requires { router_check (L.HallMemory.view left) (R.HallMemory.view right) bit ≡ Ok tt }
+        ensures view { router_view result.bit result.order (L.HallMemory.view result.left) (R.HallMemory.view result.right) ≡ router_view bit [] (L.HallMemory.view left) (R.HallMemory.view right) }
+        ensures lies { OneSide bit (router_view result.bit result.order) }
     {
         Router {
             left,
@@ -62,7 +61,6 @@ impl<L: HallMemory, R: HallMemory> Router<L, R> {
     }
 
     fn side(&self, cell: Cell) -> Side
-        requires { self.now.bit ≤ 31 }
         ensures { result ≡ side_of self.now.bit cell.0 }
     {
         if (cell.0 >> self.bit) % 2 == 1 {
@@ -73,24 +71,20 @@ impl<L: HallMemory, R: HallMemory> Router<L, R> {
     }
 }
 
-// Notes that this side owes the reply of a request, if it wants one. False where no more replies may be in transit.
-fn owe(order: &mut Queue<Side, 32>, side: Side, request: Request) -> bool
-    requires { Sound order.old }
-    ensures sound { Sound order.new }
-    ensures answer { result ≡ not (wants_reply request.action && nat_le room (length (items order.old))) }
-    ensures holds { items order.new ≡ (if result then order_after request side (items order.old) else items order.old) }
+// Notes that this side owes the reply of a request, if it wants one, unless no more replies may be in transit.
+fn owe(order: &mut Queue<Side, 32>, side: Side, request: Request) -> Result<(), Full>
+    ensures answer { result ≡ owing request order.old }
+    ensures holds { order.new ≡ (if is_ok result then order_after request side order.old else order.old) }
 {
-    if !request.action.wants_reply() {
-        return true;
+    if request.action.wants_reply() {
+        order.push(side)?;
     }
-    order.push(side)
+    Ok(())
 }
 
 // Notes what was taken from the side that owes the first reply.
 fn settle(order: &mut Queue<Side, 32>, taken: Taken)
-    requires { Sound order.old }
-    ensures sound { Sound order.new }
-    ensures holds { items order.new ≡ order_taken taken (items order.old) }
+    ensures { order.new ≡ order_taken taken order.old }
 {
     if let Taken::Reply(_) = taken {
         order.pop();
@@ -98,20 +92,17 @@ fn settle(order: &mut Queue<Side, 32>, taken: Taken)
 }
 
 impl<L: HallMemory, R: HallMemory> HallMemory for Router<L, R> {
-    ghost view = { λ m. router_view m.bit (items m.order) (L.HallMemory.view m.left) (R.HallMemory.view m.right) };
+    ghost view = { λ m. router_view m.bit m.order (L.HallMemory.view m.left) (R.HallMemory.view m.right) };
 
-    ghost sound = { λ m. L.HallMemory.sound m.left × R.HallMemory.sound m.right × SoundRouter m.bit m.order (L.HallMemory.view m.left) (R.HallMemory.view m.right) };
-
-    ghost bounded = { λ m sound.
-        let left = L.HallMemory.bounded m.left sound.0 in
-        let right = R.HallMemory.bounded m.right sound.1 in
+    ghost bounded = { λ m.
+        let left = L.HallMemory.bounded m.left in
+        let right = R.HallMemory.bounded m.right in
+        let few = m.few in
         Prim.grind (arith, nat_tests, length_merge) };
 
     fn send(&mut self, request: Request) -> Result<(), MemoryFault> {
         let side = self.side(request.cell);
-        if !owe(&mut self.order, side, request) {
-            return Err(MemoryFault::TransitFull);
-        }
+        owe(&mut self.order, side, request)?;
         match side {
             Side::Left => self.left.send(request),
             Side::Right => self.right.send(request),
@@ -119,19 +110,13 @@ impl<L: HallMemory, R: HallMemory> HallMemory for Router<L, R> {
     }
 
     fn take(&mut self) -> Taken {
-        match self.order.first() {
+        let taken = match self.order.first() {
             None => Taken::Nothing,
-            Some(Side::Left) => {
-                let taken = self.left.take();
-                settle(&mut self.order, taken);
-                taken
-            }
-            Some(Side::Right) => {
-                let taken = self.right.take();
-                settle(&mut self.order, taken);
-                taken
-            }
-        }
+            Some(Side::Left) => self.left.take(),
+            Some(Side::Right) => self.right.take(),
+        };
+        settle(&mut self.order, taken);
+        taken
     }
 
     fn waiting(&self) -> usize {

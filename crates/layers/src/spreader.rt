@@ -12,6 +12,7 @@ use numbers::cell::Cell;
 pub struct Spreader<M> {
     below: M,
     factor: u32,
+    ghost odd: { factor % 2 ≡ 1 },
 }
 
 impl<M: HallMemory> Spreader<M> {
@@ -27,9 +28,7 @@ impl<M: HallMemory> Spreader<M> {
 
     // The spreader over this memory. The check was passed before.
     pub fn new(below: M, factor: u32) -> Spreader<M>
-        requires checked { spreader_check factor ≡ Ok tt }
-        requires sound { M.HallMemory.sound below }
-        ensures sound { M.HallMemory.sound result.below × (result.factor % 2 ≡ 1) }
+        requires { spreader_check factor ≡ Ok tt }
         ensures view { spread_view result.factor (M.HallMemory.view result.below) ≡ spread_view factor (M.HallMemory.view below) }
         ensures apart { Apart result.factor }
     {
@@ -39,8 +38,6 @@ impl<M: HallMemory> Spreader<M> {
 
 impl<M: HallMemory> HallMemory for Spreader<M> {
     ghost view = { λ m. spread_view m.factor (M.HallMemory.view m.below) };
-
-    ghost sound = { λ m. M.HallMemory.sound m.below × (m.factor % 2 ≡ 1) };
 
     ghost bounded = { Prim.search rules };
 

@@ -6,9 +6,11 @@ use Rattle.std.proofs.lemmas.Bool.{cases_Bool, cond_both, cond-true, cond-false,
 use Rattle.std.proofs.lemmas.Bool.Decides.{nat_tests}
 use Rattle.memory.specs.Views.{View}
 use Rattle.program.specs.Pieces.{count_up}
-use Rattle.machine.specs.Means.{Mean, record_of}
+use Rattle.machine.specs.declared.state.State.{State}
+use Rattle.machine.specs.Means.{record_of}
 use Rattle.machine.specs.Soundness.{Stands, times, finals, Due, due_from, dues, places_due, still_due, FinalLast, PiecesFit, Sound}
-use Rattle.machine.specs.Turns.{landed_record, flight_after, land_piece, has_replies}
+use Rattle.operators.specs.Modes.{mode_wants_reply}
+use Rattle.machine.specs.Turns.{landed_record, flight_after, land_piece}
 use Rattle.machine.specs.declared.piece.Piece.{Piece}
 use Rattle.machine.specs.declared.record.Record.{Record}
 use Rattle.machine.proofs.KeptCounts.{none_counted}
@@ -67,7 +69,7 @@ some_due false n j e = absurd (omega arith)
 -- what is known of the channel whose reply lands
 pub record Awaits (r : Record) (place : ℕ) (places : List ℕ) : Type 0 where
   pub runs : r.flags.running ≡ true
-  pub replies : has_replies r.program.mode ≡ true
+  pub replies : mode_wants_reply r.program.mode ≡ true
   pub fewer : r.counts.landed < r.counts.sent
   pub here : place ≡ r.program.first + r.counts.landed
   pub after : places ≡ count_up (r.counts.sent - (r.counts.landed + 1)) (r.program.first + (r.counts.landed + 1))
@@ -75,8 +77,8 @@ pub record Awaits (r : Record) (place : ℕ) (places : List ℕ) : Type 0 where
 pub awaits : (r : Record) (s b f : ℕ) (place : ℕ) (places : List ℕ) → Stands r s b f (place ∷ places) → Awaits r place places
 awaits r s b f place places h =
     let split = first_counted (still_due r) (r.program.first + r.counts.landed) place places h.due in
-    let some = some_due (r.flags.running && has_replies r.program.mode) (r.counts.sent - r.counts.landed) split.0 split.1 in
-    let both = and_parts r.flags.running (has_replies r.program.mode) some.0 in
+    let some = some_due (r.flags.running && mode_wants_reply r.program.mode) (r.counts.sent - r.counts.landed) split.0 split.1 in
+    let both = and_parts r.flags.running (mode_wants_reply r.program.mode) some.0 in
     let count : r.counts.sent - r.counts.landed ≡ suc split.0 = some.1 in
     let less : split.0 ≡ r.counts.sent - (r.counts.landed + 1) = omega (arith, count) in
     let next : r.program.first + r.counts.landed + 1 ≡ r.program.first + (r.counts.landed + 1) = omega arith in
@@ -111,7 +113,7 @@ landed_stands p reply r s b f g places h count last =
       sent_all = h.sent_all;
       unsent = h.unsent;
       due = ⊎_elim
-          (λ e. last e ∙ none_counted _ ∙ ap (λ (n : ℕ). count_up n (r.program.first + (r.counts.landed + 1))) (sym (ap (λ (x : Bool). cond (x && has_replies r.program.mode) (r.counts.sent - (r.counts.landed + 1)) 0) (ends_runs e))))
+          (λ e. last e ∙ none_counted _ ∙ ap (λ (n : ℕ). count_up n (r.program.first + (r.counts.landed + 1))) (sym (ap (λ (x : Bool). cond (x && mode_wants_reply r.program.mode) (r.counts.sent - (r.counts.landed + 1)) 0) (ends_runs e))))
           (λ e. k.after ∙ ap (λ (n : ℕ). count_up n (r.program.first + (r.counts.landed + 1)))
           (sym (cond-true _ _ _ (and_from _ _ (goes_on k.runs e) k.replies))))
           (cases_Bool (ends p));
@@ -124,7 +126,7 @@ landed_stands p reply r s b f g places h count last =
     goes_on runs e = grind (arith, nat_tests)
 
 -- what a flight that is not empty shows: a piece of a channel below 16, a reply in transit, and where that reply lands
-pub record LandsAt (m : Mean) (v : View) (p : Piece) (ps : List Piece) : Type 0 where
+pub record LandsAt (m : State) (v : View) (p : Piece) (ps : List Piece) : Type 0 where
   pub low : p.channel.0 < 16
   pub taken : 0 < length v.transit
   pub stands_so : Stands (record_of m p.channel.0) (times p.channel.0 m.singles) (times p.channel.0 m.blocks) (finals p.channel.0 (p ∷ ps))
@@ -141,7 +143,7 @@ places_here p ps k e = ap (places_due p.channel.0) (dues_before p ps k e) ∙ co
 places_there : (d : ℕ) (p : Piece) (ps : List Piece) (k : ℕ) → p.due ≡ suc k → d ≢ p.channel.0 → places_due d (dues (p ∷ ps)) ≡ places_due d (later p ps k)
 places_there d p ps k e apart = ap (places_due d) (dues_before p ps k e) ∙ cond-false _ _ _ (ne_eqb p.channel.0 d (λ same. apart (sym same)))
 
-pub lands_at : (m : Mean) (v : View) (p : Piece) (ps : List Piece) → Sound m v → m.flight ≡ p ∷ ps → LandsAt m v p ps
+pub lands_at : (m : State) (v : View) (p : Piece) (ps : List Piece) → Sound m v → m.flight ≡ p ∷ ps → LandsAt m v p ps
 lands_at m v p ps sound same =
     let fit : PiecesFit (p ∷ ps) = subst PiecesFit same sound.pieces_fit in
     let low : p.channel.0 < 16 = fit.0 in
@@ -159,10 +161,10 @@ lands_at m v p ps sound same =
     }
 
 -- take never answers that nothing is in transit
-pub always_taken : (m : Mean) (v : View) (p : Piece) (ps : List Piece) → Sound m v → m.flight ≡ p ∷ ps → 0 < length v.transit
+pub always_taken : (m : State) (v : View) (p : Piece) (ps : List Piece) → Sound m v → m.flight ≡ p ∷ ps → 0 < length v.transit
 always_taken m v p ps sound same = (lands_at m v p ps sound same).taken
 
-pub sound_land : (m : Mean) (v w : View) (p : Piece) (ps : List Piece) (reply : Option ℕ) → Sound m v → m.flight ≡ p ∷ ps → v.transit ≡ reply ∷ w.transit
+pub sound_land : (m : State) (v w : View) (p : Piece) (ps : List Piece) (reply : Option ℕ) → Sound m v → m.flight ≡ p ∷ ps → v.transit ≡ reply ∷ w.transit
     → Sound (land_piece m p ps reply) w
 sound_land m v w p ps reply sound same took =
     changed m (land_piece m p ps reply) v w p.channel.0 (landed_record p reply (record_of m p.channel.0)) _ _ _ _ sound low refl refl refl refl

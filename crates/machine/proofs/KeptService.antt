@@ -10,13 +10,14 @@ use Rattle.memory.specs.declared.fault.MemoryFault.{MemoryFault}
 use Rattle.memory.specs.declared.fault.MemoryFault.TheVariants.{TransitFull}
 use Rattle.memory.specs.declared.request.Request.{Request}
 use Rattle.numbers.specs.declared.channel.Channel.{Channel}
-use Rattle.operators.specs.Modes.{sending, wants_reply}
+use Rattle.operators.specs.Modes.{sending, wants_reply, mode_wants_reply}
 use Rattle.operators.specs.declared.mode.Mode.{Mode}
 use Rattle.operators.specs.declared.mode.Mode.TheVariants.{Load, Store, Mp, Sync}
-use Rattle.program.specs.Pieces.{count_up}
-use Rattle.machine.specs.Means.{Mean, record_of}
+use Rattle.program.specs.Pieces.{count_up, span_len}
+use Rattle.machine.specs.declared.state.State.{State}
+use Rattle.machine.specs.Means.{record_of}
 use Rattle.machine.specs.Soundness.{Stands, times, finals, Due, due_from, dues, places_due, still_due, FinalLast, ChannelsFit, PiecesFit, Sound}
-use Rattle.machine.specs.Turns.{chosen, serviced, next_piece, piece_length, final, request_at, requests_from, requests, has_replies, served_record, rest, serve, SentAll}
+use Rattle.machine.specs.Turns.{chosen, serviced, next_piece, final, request_at, requests_from, requests, served_record, rest, serve, SentAll}
 use Rattle.machine.specs.declared.piece.Piece.{Piece}
 use Rattle.machine.specs.declared.record.Record.{Record}
 use Rattle.machine.proofs.KeptCounts.{count_split, times_append, times_here, times_other, finals_append, channels_append, pieces_append, dues_append, places_append, places_own, places_other, length_due, few_due}
@@ -24,13 +25,13 @@ use Rattle.machine.proofs.KeptChannels.{changed}
 
 -- the next piece of a channel that waits has one to eight places, the first of them the first unsent, the last of them within
 pub record NextPiece (r : Record) : Type 0 where
-  pub some : 1 ≤ piece_length (next_piece r)
-  pub short : piece_length (next_piece r) ≤ 8
+  pub some : 1 ≤ span_len (next_piece r)
+  pub short : span_len (next_piece r) ≤ 8
   pub from_is : (next_piece r).from ≡ r.program.first + r.counts.sent
   pub rises : (next_piece r).from ≤ (next_piece r).to
   pub to_last : (next_piece r).to ≤ r.program.last
   pub within : r.program.last < 256
-  pub sent_so : r.program.first + (r.counts.sent + piece_length (next_piece r)) ≡ (next_piece r).to + 1
+  pub sent_so : r.program.first + (r.counts.sent + span_len (next_piece r)) ≡ (next_piece r).to + 1
 
 pub piece_nonempty : (r : Record) (s b f : ℕ) (ps : List ℕ) → Stands r s b f ps → 0 < s + b → NextPiece r
 piece_nonempty r s b f ps h waits =
@@ -78,14 +79,14 @@ placed_after : (run h fin : Bool) (t c f n : ℕ) → run ≡ true → f ≡ 0 �
 placed_after run h fin t c f n er ef en count = grind (arith, nat_tests)
 
 served_stands : (r : Record) (s b f t c : ℕ) (ps : List ℕ) → Stands r s b f ps → 0 < s + b → t + c + bool_byte (final r) ≡ s + b → (0 < t → 0 < s) → (0 < c → 0 < b)
-    → Stands (served_record r) t c (f + bool_byte (has_replies r.program.mode && final r))
-    (ps ++ cond (has_replies r.program.mode) (count_up (piece_length (next_piece r)) (next_piece r).from) [])
+    → Stands (served_record r) t c (f + bool_byte (mode_wants_reply r.program.mode && final r))
+    (ps ++ cond (mode_wants_reply r.program.mode) (count_up (span_len (next_piece r)) (next_piece r).from) [])
 served_stands r s b f t c ps h waits count singles blocks =
     let k = piece_nonempty r s b f ps h waits in
     let at = waits_runs r s b f ps h waits in
     record {
       window = h.window;
-      placed = placed_after r.flags.running (has_replies r.program.mode) (final r) t c f (s + b) at.0 at.2 at.1 count;
+      placed = placed_after r.flags.running (mode_wants_reply r.program.mode) (final r) t c f (s + b) at.0 at.2 at.1 count;
       single_line = λ some. h.single_line (singles some);
       block_line = λ some. h.block_line (blocks some);
       held = λ e. h.held at.0;
@@ -93,10 +94,10 @@ served_stands r s b f t c ps h waits count singles blocks =
       within = h.within;
       one_place = h.one_place;
       landed_sent = omega (arith, h.landed_sent);
-      sent_all = all_sent r.program.first r.counts.sent (piece_length (next_piece r)) (next_piece r).to r.program.last k.sent_so k.to_last;
-      unsent = λ some. some_left r.program.first r.counts.sent (piece_length (next_piece r)) (next_piece r).to r.program.last k.sent_so k.to_last
+      sent_all = all_sent r.program.first r.counts.sent (span_len (next_piece r)) (next_piece r).to r.program.last k.sent_so k.to_last;
+      unsent = λ some. some_left r.program.first r.counts.sent (span_len (next_piece r)) (next_piece r).to r.program.last k.sent_so k.to_last
           (not_final r (stays t c (s + b) (final r) some at.1 count));
-      due = ⊎_elim (due_more k at.0) due_none (cases_Bool (has_replies r.program.mode));
+      due = ⊎_elim (due_more k at.0) due_none (cases_Bool (mode_wants_reply r.program.mode));
     }
   where
     all_sent : (a n l t z : ℕ) → a + (n + l) ≡ t + 1 → t ≤ z → n + l ≤ z + 1 - a
@@ -109,20 +110,20 @@ served_stands r s b f t c ps h waits count singles blocks =
     stays t c n true some one e = absurd (omega arith)
     stays t c n false some one e = refl
 
-    due_more : NextPiece r → r.flags.running ≡ true → has_replies r.program.mode ≡ true
-        → ps ++ cond (has_replies r.program.mode) (count_up (piece_length (next_piece r)) (next_piece r).from) []
+    due_more : NextPiece r → r.flags.running ≡ true → mode_wants_reply r.program.mode ≡ true
+        → ps ++ cond (mode_wants_reply r.program.mode) (count_up (span_len (next_piece r)) (next_piece r).from) []
         ≡ count_up (still_due (served_record r)) (r.program.first + r.counts.landed)
     due_more k runs replies =
         let old : still_due r ≡ r.counts.sent - r.counts.landed = cond-true _ _ _ (and_from _ _ runs replies) in
-        let still : (r.flags.running && not (final r && not (has_replies r.program.mode))) ≡ true = on r.flags.running (final r) (has_replies r.program.mode) runs replies in
-        let new : still_due (served_record r) ≡ r.counts.sent + piece_length (next_piece r) - r.counts.landed = cond-true _ _ _ (and_from _ _ still replies) in
-        let sum : r.counts.sent - r.counts.landed + piece_length (next_piece r) ≡ still_due (served_record r) =
-        sum_is r.counts.sent r.counts.landed (piece_length (next_piece r)) h.landed_sent ∙ sym new in
+        let still : (r.flags.running && not (final r && not (mode_wants_reply r.program.mode))) ≡ true = on r.flags.running (final r) (mode_wants_reply r.program.mode) runs replies in
+        let new : still_due (served_record r) ≡ r.counts.sent + span_len (next_piece r) - r.counts.landed = cond-true _ _ _ (and_from _ _ still replies) in
+        let sum : r.counts.sent - r.counts.landed + span_len (next_piece r) ≡ still_due (served_record r) =
+        sum_is r.counts.sent r.counts.landed (span_len (next_piece r)) h.landed_sent ∙ sym new in
         let from : (next_piece r).from ≡ r.program.first + r.counts.landed + (r.counts.sent - r.counts.landed) = from_is r.program.first r.counts.landed r.counts.sent h.landed_sent in
         ap (λ (l : List ℕ). ps ++ l) (cond-true _ _ _ replies)
-        ∙ ap (λ (l : List ℕ). l ++ count_up (piece_length (next_piece r)) (next_piece r).from) (h.due ∙ ap (λ (n : ℕ). count_up n (r.program.first + r.counts.landed)) old)
-        ∙ ap (λ (a : ℕ). count_up (r.counts.sent - r.counts.landed) (r.program.first + r.counts.landed) ++ count_up (piece_length (next_piece r)) a) from
-        ∙ sym (count_split (r.counts.sent - r.counts.landed) (piece_length (next_piece r)) (r.program.first + r.counts.landed))
+        ∙ ap (λ (l : List ℕ). l ++ count_up (span_len (next_piece r)) (next_piece r).from) (h.due ∙ ap (λ (n : ℕ). count_up n (r.program.first + r.counts.landed)) old)
+        ∙ ap (λ (a : ℕ). count_up (r.counts.sent - r.counts.landed) (r.program.first + r.counts.landed) ++ count_up (span_len (next_piece r)) a) from
+        ∙ sym (count_split (r.counts.sent - r.counts.landed) (span_len (next_piece r)) (r.program.first + r.counts.landed))
         ∙ ap (λ (n : ℕ). count_up n (r.program.first + r.counts.landed)) sum
       where
         on : (run fin h : Bool) → run ≡ true → h ≡ true → (run && not (fin && not h)) ≡ true
@@ -134,12 +135,12 @@ served_stands r s b f t c ps h waits count singles blocks =
         from_is : (a l n : ℕ) → l ≤ n → a + n ≡ a + l + (n - l)
         from_is a l n h = omega arith
 
-    due_none : has_replies r.program.mode ≡ false
-        → ps ++ cond (has_replies r.program.mode) (count_up (piece_length (next_piece r)) (next_piece r).from) []
+    due_none : mode_wants_reply r.program.mode ≡ false
+        → ps ++ cond (mode_wants_reply r.program.mode) (count_up (span_len (next_piece r)) (next_piece r).from) []
         ≡ count_up (still_due (served_record r)) (r.program.first + r.counts.landed)
     due_none silent =
-        let old : still_due r ≡ 0 = cond-false _ _ _ (and_right r.flags.running (has_replies r.program.mode) silent) in
-        let new : still_due (served_record r) ≡ 0 = cond-false _ _ _ (and_right (served_record r).flags.running (has_replies r.program.mode) silent) in
+        let old : still_due r ≡ 0 = cond-false _ _ _ (and_right r.flags.running (mode_wants_reply r.program.mode) silent) in
+        let new : still_due (served_record r) ≡ 0 = cond-false _ _ _ (and_right (served_record r).flags.running (mode_wants_reply r.program.mode) silent) in
         ap (λ (l : List ℕ). ps ++ l) (cond-false _ _ _ silent) ∙ append-nil ps ∙ h.due ∙ ap (λ (n : ℕ). count_up n (r.program.first + r.counts.landed)) (old ∙ sym new)
 
 -- a piece that is sent is in flight if it has replies
@@ -200,7 +201,7 @@ final_flown true ps q last none = final_append ps q last none
 final_flown false ps q last none = last
 
 -- what the requests leave in transit
-wants : (m : Mode) (w : ℕ) → wants_reply (sending m w) ≡ has_replies m
+wants : (m : Mode) (w : ℕ) → wants_reply (sending m w) ≡ mode_wants_reply m
 wants Load w = refl
 wants Store w = refl
 wants (Mp o) w = refl
@@ -217,21 +218,21 @@ sent_one q v w sends =
     more true = length-append v.transit _
     more false = omega arith
 
-pub sent_transit : (r : Record) (n p : ℕ) (v w : View) → SentAll (requests_from r n p) v w → length w.transit ≡ length v.transit + cond (has_replies r.program.mode) n 0
+pub sent_transit : (r : Record) (n p : ℕ) (v w : View) → SentAll (requests_from r n p) v w → length w.transit ≡ length v.transit + cond (mode_wants_reply r.program.mode) n 0
 sent_transit r zero p v w sent =
-    ap (λ (x : View). length x.transit) sent ∙ cond_both (has_replies r.program.mode) 0 0 (λ (n : ℕ). length v.transit ≡ length v.transit + n) (λ _. omega arith) (λ _. omega arith)
+    ap (λ (x : View). length x.transit) sent ∙ cond_both (mode_wants_reply r.program.mode) 0 0 (λ (n : ℕ). length v.transit ≡ length v.transit + n) (λ _. omega arith) (λ _. omega arith)
 sent_transit r (suc n) p v w sent =
     let first = sent_one (request_at r p) v sent.0 sent.1.0 in
-    let want : bool_byte (wants_reply (request_at r p).action) ≡ bool_byte (has_replies r.program.mode) = ap bool_byte (wants r.program.mode _) in
+    let want : bool_byte (wants_reply (request_at r p).action) ≡ bool_byte (mode_wants_reply r.program.mode) = ap bool_byte (wants r.program.mode _) in
     let others = sent_transit r n (p + 1) sent.0 w sent.1.1 in
-    sum (has_replies r.program.mode) (length w.transit) (length sent.0.transit) (length v.transit) n others (first ∙ ap (λ (k : ℕ). length v.transit + k) want)
+    sum (mode_wants_reply r.program.mode) (length w.transit) (length sent.0.transit) (length v.transit) n others (first ∙ ap (λ (k : ℕ). length v.transit + k) want)
   where
     sum : (h : Bool) (a b c k : ℕ) → a ≡ b + cond h k 0 → b ≡ c + bool_byte h → a ≡ c + cond h (suc k) 0
     sum true a b c k e f = omega arith
     sum false a b c k e f = omega arith
 
 -- no request of a piece is refused: before it at most 24 replies are in transit, and it has at most eight
-pub never_refused : (m : Mean) (v u : View) (j : ℕ) (q : Request) → Sound m v → length m.flight < 4 → j < 8 → length u.transit ≤ length v.transit + j → refuses q u ≡ false
+pub never_refused : (m : State) (v u : View) (j : ℕ) (q : Request) → Sound m v → length m.flight < 4 → j < 8 → length u.transit ≤ length v.transit + j → refuses q u ≡ false
 never_refused m v u j q sound few early so_far =
     let due = few_due m.flight 3 sound.pieces_fit (omega (arith, few)) in
     let less : length u.transit < 32 = omega (arith, due, sound.tied, so_far, early) in
@@ -245,7 +246,7 @@ chosen_from (s ∷ ss) [] after c e = inl (let same : s ≡ c = cc in ap (λ (x 
 chosen_from (s ∷ ss) (b ∷ bs) true c e = inr (let same : b ≡ c = cc in ap (λ (x : Channel). x ∷ bs) same)
 chosen_from (s ∷ ss) (b ∷ bs) false c e = inl (let same : s ≡ c = cc in ap (λ (x : Channel). x ∷ ss) same)
 
-pub serviced_from : (m : Mean) (c : Channel) → serviced m ≡ Some c → (length m.flight < 4) × (chosen m.singles m.blocks m.after_single ≡ Some c)
+pub serviced_from : (m : State) (c : Channel) → serviced m ≡ Some c → (length m.flight < 4) × (chosen m.singles m.blocks m.after_single ≡ Some c)
 serviced_from m c =
     cond_both (ltb (length m.flight) 4) _ _ (λ (o : Option Channel). o ≡ Some c → (length m.flight < 4) × (chosen m.singles m.blocks m.after_single ≡ Some c))
     (λ few e. (ltb-true _ _ few, e))
@@ -253,10 +254,10 @@ serviced_from m c =
 
 -- the piece of a service
 abbrev pub sent_piece : Channel → Record → Piece
-sent_piece c r = record { channel = c; next = record { 0 = (next_piece r).from }; due = piece_length (next_piece r); last = final r }
+sent_piece c r = record { channel = c; next = record { 0 = (next_piece r).from }; due = span_len (next_piece r); last = final r }
 
 -- the channel leaves its line, or goes to the end of it; xs and ys are the lines after
-serve_lines : (m : Mean) (v w : View) (c : Channel) (xs ys : List Channel) → Sound m v → length m.flight < 4 → c.0 < 16
+serve_lines : (m : State) (v w : View) (c : Channel) (xs ys : List Channel) → Sound m v → length m.flight < 4 → c.0 < 16
     → 0 < times c.0 m.singles + times c.0 m.blocks
     → (serve m c (record_of m c.0)).singles ≡ xs → (serve m c (record_of m c.0)).blocks ≡ ys
     → times c.0 xs + times c.0 ys + bool_byte (final (record_of m c.0)) ≡ times c.0 m.singles + times c.0 m.blocks
@@ -265,20 +266,20 @@ serve_lines : (m : Mean) (v w : View) (c : Channel) (xs ys : List Channel) → S
     → ChannelsFit xs → ChannelsFit ys → SentAll (requests (record_of m c.0)) v w → Sound (serve m c (record_of m c.0)) w
 serve_lines m v w c xs ys sound few low waits ex ey count singles blocks others fit-x fit-y sent =
     let r = record_of m c.0 in
-    let h = has_replies r.program.mode in
+    let h = mode_wants_reply r.program.mode in
     let q = sent_piece c r in
     changed m (serve m c r) v w c.0 (served_record r) (times c.0 xs) (times c.0 ys) _ _ sound low refl
     (ap (times c.0) ex) (ap (times c.0) ey)
     (finals_flown c.0 h m.flight q ∙ ap (λ (b : Bool). finals c.0 m.flight + bool_byte (h && (b && final r))) (eq-eqb c.0 c.0 refl))
     (places_flown c.0 h m.flight q
-    ∙ ap (λ (l : List ℕ). places_due c.0 (dues m.flight) ++ cond h l []) (places_own c.0 (piece_length (next_piece r)) (next_piece r).from))
+    ∙ ap (λ (l : List ℕ). places_due c.0 (dues m.flight) ++ cond h l []) (places_own c.0 (span_len (next_piece r)) (next_piece r).from))
     (served_stands r _ _ _ _ _ _ before waits count singles blocks)
     (λ d apart. record {
       singles = ap (times d) ex ∙ (others d apart).0;
       blocks = ap (times d) ey ∙ (others d apart).1;
       finals = finals_flown d h m.flight q ∙ ap (λ (b : Bool). finals d m.flight + bool_byte (h && (b && final r))) (ne_eqb c.0 d (λ e. apart (sym e))) ∙ no_final h (finals d m.flight);
       places = places_flown d h m.flight q
-          ∙ ap (λ (l : List ℕ). places_due d (dues m.flight) ++ cond h l []) (places_other d c.0 (piece_length (next_piece r)) (next_piece r).from (λ e. apart (sym e)))
+          ∙ ap (λ (l : List ℕ). places_due d (dues m.flight) ++ cond h l []) (places_other d c.0 (span_len (next_piece r)) (next_piece r).from (λ e. apart (sym e)))
           ∙ no_places h (places_due d (dues m.flight));
     })
     (record {
@@ -287,7 +288,7 @@ serve_lines m v w c xs ys sound few low waits ex ey count singles blocks others 
       pieces_fit = fit_flown h m.flight q sound.pieces_fit (low, piece.some, piece.short, tt);
       few = few_flown h m.flight q few;
       finals_last = final_flown h m.flight q sound.finals_last (waits_runs r _ _ _ _ before waits).2;
-      tied = sent_transit r (piece_length (next_piece r)) (next_piece r).from v w sent ∙ ap (λ (n : ℕ). n + cond h (piece_length (next_piece r)) 0) sound.tied ∙ sym (length_flown h m.flight q);
+      tied = sent_transit r (span_len (next_piece r)) (next_piece r).from v w sent ∙ ap (λ (n : ℕ). n + cond h (span_len (next_piece r)) 0) sound.tied ∙ sym (length_flown h m.flight q);
     })
   where
     before : Stands (record_of m c.0) (times c.0 m.singles) (times c.0 m.blocks) (finals c.0 m.flight) (places_due c.0 (dues m.flight))
@@ -330,7 +331,7 @@ fit_requeued : (fin : Bool) (c : Channel) (l : List Channel) → c.0 < 16 → Ch
 fit_requeued true c l low fit = fit
 fit_requeued false c l low fit = channels_append l (c ∷ []) fit (low, tt)
 
-serve_single : (m : Mean) (v w : View) (c : Channel) → Sound m v → length m.flight < 4 → m.singles ≡ c ∷ rest m.singles
+serve_single : (m : State) (v w : View) (c : Channel) → Sound m v → length m.flight < 4 → m.singles ≡ c ∷ rest m.singles
     → SentAll (requests (record_of m c.0)) v w → Sound (serve m c (record_of m c.0)) w
 serve_single m v w c sound few e sent =
     let fit : ChannelsFit (c ∷ rest m.singles) = subst ChannelsFit e sound.singles_fit in
@@ -343,7 +344,7 @@ serve_single m v w c sound few e sent =
     serve_lines m v w c (rest m.singles) m.blocks sound few low waits (cond-true _ _ _ single) (cond-true _ _ _ single)
     (omega (arith, head, fin)) (λ _. some) (λ h. h) (λ d apart. (times_beside d c m.singles e apart, refl)) fit.1 sound.blocks_fit sent
 
-serve_block : (m : Mean) (v w : View) (c : Channel) → Sound m v → length m.flight < 4 → m.blocks ≡ c ∷ rest m.blocks
+serve_block : (m : State) (v w : View) (c : Channel) → Sound m v → length m.flight < 4 → m.blocks ≡ c ∷ rest m.blocks
     → SentAll (requests (record_of m c.0)) v w → Sound (serve m c (record_of m c.0)) w
 serve_block m v w c sound few e sent =
     let fit : ChannelsFit (c ∷ rest m.blocks) = subst ChannelsFit e sound.blocks_fit in
@@ -358,20 +359,20 @@ serve_block m v w c sound few e sent =
     (omega (arith, head, after)) (λ h. h) (λ _. some)
     (λ d apart. (refl, beside_requeued fin d c (rest m.blocks) apart ∙ times_beside d c m.blocks e apart)) sound.singles_fit (fit_requeued fin c _ low fit.1) sent
 
-pub sound_serve : (m : Mean) (v w : View) (c : Channel) → Sound m v → serviced m ≡ Some c → SentAll (requests (record_of m c.0)) v w → Sound (serve m c (record_of m c.0)) w
+pub sound_serve : (m : State) (v w : View) (c : Channel) → Sound m v → serviced m ≡ Some c → SentAll (requests (record_of m c.0)) v w → Sound (serve m c (record_of m c.0)) w
 sound_serve m v w c sound picked sent =
     let from = serviced_from m c picked in
     ⊎_elim (λ e. serve_single m v w c sound from.0 e sent) (λ e. serve_block m v w c sound from.0 e sent) (chosen_from m.singles m.blocks m.after_single c from.1)
 
 -- what the code needs of the channel that is served
-pub record Serves (m : Mean) (c : Channel) : Type 0 where
+pub record Serves (m : State) (c : Channel) : Type 0 where
   pub low : c.0 < 16
   pub room : length m.flight < 4
   pub waits : 0 < times c.0 m.singles + times c.0 m.blocks
   pub runs : (record_of m c.0).flags.running ≡ true
   pub piece : NextPiece (record_of m c.0)
 
-pub serves : (m : Mean) (v : View) (c : Channel) → Sound m v → serviced m ≡ Some c → Serves m c
+pub serves : (m : State) (v : View) (c : Channel) → Sound m v → serviced m ≡ Some c → Serves m c
 serves m v c sound picked =
     let from = serviced_from m c picked in
     ⊎_elim
@@ -384,12 +385,12 @@ serves m v c sound picked =
         let before = (sound.channels c.0 low) in
         record { low = low; room = few; waits = waits; runs = (waits_runs _ _ _ _ _ before waits).0; piece = piece_nonempty _ _ _ _ _ before waits }
 
-pub waiting_piece : (m : Mean) (v : View) (c : ℕ) → Sound m v → c < 16 → 0 < times c m.singles + times c m.blocks → NextPiece (record_of m c)
+pub waiting_piece : (m : State) (v : View) (c : ℕ) → Sound m v → c < 16 → 0 < times c m.singles + times c m.blocks → NextPiece (record_of m c)
 waiting_piece m v c sound low waits = piece_nonempty _ _ _ _ _ ((sound.channels c low)) waits
 
 -- after j requests of a piece the next is not refused
-pub next_sent : (m : Mean) (v u : View) (r : Record) (j p : ℕ) (q : Request) → Sound m v → length m.flight < 4 → j < 8 → SentAll (requests_from r j p) v u → refuses q u ≡ false
+pub next_sent : (m : State) (v u : View) (r : Record) (j p : ℕ) (q : Request) → Sound m v → length m.flight < 4 → j < 8 → SentAll (requests_from r j p) v u → refuses q u ≡ false
 next_sent m v u r j p q sound few early sent =
     let so_far = sent_transit r j p v u sent in
-    let most : cond (has_replies r.program.mode) j 0 ≤ j = cond_both (has_replies r.program.mode) j 0 (λ (n : ℕ). n ≤ j) (λ _. omega arith) (λ _. omega arith) in
+    let most : cond (mode_wants_reply r.program.mode) j 0 ≤ j = cond_both (mode_wants_reply r.program.mode) j 0 (λ (n : ℕ). n ≤ j) (λ _. omega arith) (λ _. omega arith) in
     never_refused m v u j q sound few early (omega (arith, so_far, most))

@@ -16,14 +16,15 @@ use Rattle.operators.specs.Modes.{sending, word_after}
 use Rattle.operators.specs.declared.choice.Choice.{Choice}
 use Rattle.operators.specs.declared.mode.Mode.TheVariants.{Load, Store, Mp, Sync}
 use Rattle.operators.specs.declared.mode.Mode.{Mode}
-use Rattle.program.specs.Pieces.{boundary}
+use Rattle.program.specs.Pieces.{boundary, span_len}
 use Rattle.machine.specs.Calls.{Refused}
 use Rattle.machine.specs.Histories.{starts, Starts, Begun, begun_by, begun, sent_count, cell_at, Names}
 use Rattle.machine.specs.Laws.{Under, UnderBy, OnlyUnder, joins, word_of, words_from, words_of, words_by, words_in, words_sent, join_all, SameWords, Summed}
-use Rattle.machine.specs.Means.{Mean, record_of}
-use Rattle.machine.specs.Soundness.{new_mean, Sound, ChannelSound}
+use Rattle.machine.specs.declared.state.State.{State}
+use Rattle.machine.specs.Means.{record_of}
+use Rattle.machine.specs.Soundness.{new_state, Sound, ChannelSound}
 use Rattle.machine.specs.Steps.{Call, reserve, release, put, fill, start, stop, quiet, wake, look, status, turn, Step, Seen, seen, History, Run, begin, next, done_unless, word_or, given_or}
-use Rattle.machine.specs.Turns.{landed, serviced, next_piece, piece_length, service, Turns, word_sent, request_at, requests_from, requests, requested, SentAll, TakenOnce}
+use Rattle.machine.specs.Turns.{landed, serviced, next_piece, service, Turns, word_sent, request_at, requests_from, requests, requested, SentAll, TakenOnce}
 use Rattle.machine.specs.declared.answer.Answer.TheVariants as answer
 use Rattle.machine.specs.declared.answer.Answer.{Answer}
 use Rattle.machine.specs.declared.answer.Service.{Service}
@@ -126,13 +127,13 @@ requests_sent o a below c b r program (suc n) p i is words under v w (mid, (send
     ∙ after_append o (words_from c b a n (i + 1)) _ (v.cell a)
 
 piece_within : (r : Record) (k : ℕ) → r.program.first ≤ r.program.last → r.counts.sent ≤ r.program.last - r.program.first
-    → k < r.counts.sent + piece_length (next_piece r) → k ≤ r.program.last - r.program.first
+    → k < r.counts.sent + span_len (next_piece r) → k ≤ r.program.last - r.program.first
 piece_within r k ordered unsent high = omega (arith, min-le_right (boundary (r.program.first + r.counts.sent)) r.program.last)
 
 -- the requests of one service leave the cell joined with the words that they sent to it
-service_joined : (o : Choice) (a : ℕ) → a < 2 ^ 32 → (h : History) (m mid : Mean) (v w : View) (d lands : ℕ) → OnlyUnder o a h
+service_joined : (o : Choice) (a : ℕ) → a < 2 ^ 32 → (h : History) (m mid : State) (v w : View) (d lands : ℕ) → OnlyUnder o a h
     → ChannelSound m d → Serves m d → Link d h (record_of m d) → Landed (record_of m d) (record_of mid d) lands
-    → SentAll (requests (record_of mid d)) v w → w.cell a ≡ after o (words_of d (begun d h) a (piece_length (next_piece (record_of mid d))) (sent_count d h)) (v.cell a)
+    → SentAll (requests (record_of mid d)) v w → w.cell a ≡ after o (words_of d (begun d h) a (span_len (next_piece (record_of mid d))) (sent_count d h)) (v.cell a)
 service_joined o a below h m mid v w d lands only sound serving link now sends =
     let r = record_of m d in
     let q = record_of mid d in
@@ -148,19 +149,19 @@ service_joined o a below h m mid v w d lands only sound serving link now sends =
     let ordered : q.program.first ≤ q.program.last = let e = sound.ordered in omega arith in
     let within : b.program.last < 256 = let e = sound.within in omega arith in
     let unsent : q.counts.sent ≤ q.program.last - q.program.first = let e = serving.unsent in omega arith in
-    let inside : (k : ℕ) → k < q.counts.sent + piece_length (next_piece q) → k ≤ b.program.last - b.program.first = λ k high. let e = piece_within q k ordered unsent high in omega arith in
-    requests_sent o a below d b q program (piece_length (next_piece q)) (q.program.first + q.counts.sent) q.counts.sent (ap (λ (x : ℕ). x + q.counts.sent) first)
+    let inside : (k : ℕ) → k < q.counts.sent + span_len (next_piece q) → k ≤ b.program.last - b.program.first = λ k high. let e = piece_within q k ordered unsent high in omega arith in
+    requests_sent o a below d b q program (span_len (next_piece q)) (q.program.first + q.counts.sent) q.counts.sent (ap (λ (x : ℕ). x + q.counts.sent) first)
     (λ k low high. word_sent_is d b r q lands serving.below alone now k low (let e = inside k high in omega arith))
     (λ k low high named. begun_under o a d h b only begins.1 (k, inside k high, named))
     v w sends
-    ∙ ap (λ (i : ℕ). after o (words_from d b a (piece_length (next_piece q)) i) (v.cell a)) (sent ∙ link.sent)
-    ∙ ap (λ (x : Option Begun). after o (words_of d x a (piece_length (next_piece q)) (sent_count d h)) (v.cell a)) (sym begins.1)
+    ∙ ap (λ (i : ℕ). after o (words_from d b a (span_len (next_piece q)) i) (v.cell a)) (sent ∙ link.sent)
+    ∙ ap (λ (x : Option Begun). after o (words_of d x a (span_len (next_piece q)) (sent_count d h)) (v.cell a)) (sym begins.1)
 
 taken_cell : (flight : List Piece) (t : Taken) (v w : View) (a : ℕ) → a < 2 ^ 32 → TakenOnce flight t v w → w.cell a ≡ v.cell a
 taken_cell [] t v w a below (nothing, same) = ap (λ (x : View). x.cell a) same
 taken_cell (p ∷ ps) t v w a below takes = takes.cells a below
 
-served_joined : (o : Choice) (a : ℕ) → a < 2 ^ 32 → (h : History) (m : Mean) (v between w : View) (t : Taken) (d : Option Channel) → OnlyUnder o a h → Sound m v → Linked h m
+served_joined : (o : Choice) (a : ℕ) → a < 2 ^ 32 → (h : History) (m : State) (v between w : View) (t : Taken) (d : Option Channel) → OnlyUnder o a h → Sound m v → Linked h m
     → serviced (landed m m.flight t) ≡ d → SentAll (requested (landed m m.flight t) d) between w
     → w.cell a ≡ after o (words_by (service (landed m m.flight t) d) a h) (between.cell a)
 served_joined o a below h m v between w t None only sound linked is same = ap (λ (x : View). x.cell a) same ∙ mapped_same (between.cell a)
@@ -169,13 +170,13 @@ served_joined o a below h m v between w t (Some d) only sound linked is sends =
     service_joined o a below h m (landed m m.flight t) between w d.0 _ only (sound.channels d.0 serving.below) serving (linked d.0 serving.below)
     (landed_record_is m v d.0 m.flight t sound serving.below refl) sends
 
-turn_joined : (o : Choice) (a : ℕ) → a < 2 ^ 32 → (h : History) (t : Turned) (m n : Mean) (v w : View) → OnlyUnder o a h → Sound m v → Linked h m → Turns t m n v w
+turn_joined : (o : Choice) (a : ℕ) → a < 2 ^ 32 → (h : History) (t : Turned) (m n : State) (v w : View) → OnlyUnder o a h → Sound m v → Linked h m → Turns t m n v w
     → w.cell a ≡ after o (words_by t.service a h) (v.cell a)
 turn_joined o a below h t m n v w only sound linked turns =
     let mid = landed m m.flight turns.answered in
     served_joined o a below h m v turns.between w turns.answered (serviced mid) only sound linked refl turns.sends
     ∙ ap (after o (words_by (service mid (serviced mid)) a h)) (taken_cell m.flight turns.answered v turns.between a below turns.takes)
-    ∙ ap (λ (x : Service). after o (words_by x a h) (v.cell a)) (sym turns.service_is)
+    ∙ ap (λ (x : Option Service). after o (words_by x a h) (v.cell a)) (sym turns.service_is)
 
 -- every other call leaves the cells alone and sends nothing
 still : (o : Choice) (a : ℕ) (h : History) (b c : Answer) (v w : View) → b ≡ c → words_in c a h ≡ [] → w ≡ v → w.cell a ≡ after o (words_in b a h) (v.cell a)
@@ -195,7 +196,7 @@ none_given a h (Ok c) = refl
 none_given a h (Err f) = refl
 
 -- one step joins the cell with the words that its answer tells
-step_joined : (o : Choice) (a : ℕ) → a < 2 ^ 32 → (call : Call) (h : History) (b : Answer) (m n : Mean) (v w : View) → OnlyUnder o a h → Sound m v → Linked h m → Step call b m v n w
+step_joined : (o : Choice) (a : ℕ) → a < 2 ^ 32 → (call : Call) (h : History) (b : Answer) (m n : State) (v w : View) → OnlyUnder o a h → Sound m v → Linked h m → Step call b m v n w
     → w.cell a ≡ after o (words_in b a h) (v.cell a)
 step_joined o a below reserve h b m n v w only sound linked (is, _, same) = still o a h b _ v w is (none_given a h _) same
 step_joined o a below (release c) h b m n v w only sound linked (is, _, same) = still o a h b _ v w is (none_done a h _) same
@@ -212,7 +213,7 @@ step_joined o a below turn h b m n v w only sound linked (t, is, turns) =
 
 -- over a run from a new mover
 cell_summed : (opening : View) → SoundRuns opening → (a : ℕ) → a < 2 ^ 32 → (o : Choice)
-    → {h : History} {m : Mean} {v : View} → Run new_mean opening h m v → OnlyUnder o a h → v.cell a ≡ after o (words_sent a h) (opening.cell a)
+    → {h : History} {m : State} {v : View} → Run new_state opening h m v → OnlyUnder o a h → v.cell a ≡ after o (words_sent a h) (opening.cell a)
 cell_summed opening sound a below o begin only = mapped_same (opening.cell a)
 cell_summed opening sound a below o (next {h} {m} {n} {v} {w} {c} {a = b} run step) (here, only) =
     step_joined o a below c h b m n v w only (sound h m v run) (linked opening sound run) step
@@ -225,6 +226,6 @@ after_same o us ws None same = refl
 after_same o us ws (Some x) same = ap Some (same_joined o x us ws same)
 
 -- The cell holds its opening word joined with every word sent to it
-pub summed : (opening : View) → SoundRuns opening → {h : History} {m : Mean} {v : View} → Run new_mean opening h m v → Summed (seen new_mean opening) h
+pub summed : (opening : View) → SoundRuns opening → {h : History} {m : State} {v : View} → Run new_state opening h m v → Summed (seen new_state opening) h
 summed opening sound {h} run a below o only words same =
     ap (λ (s : Seen). s.cell a) (now_seen_is run) ∙ cell_summed opening sound a below o run only ∙ sym (after_same o words (words_sent a h) (opening.cell a) same)

@@ -8,12 +8,12 @@ use Rattle.memory.specs.Views.{View}
 use Rattle.memory.specs.declared.fault.MemoryFault.{MemoryFault}
 use Rattle.memory.specs.declared.fault.MemoryFault.TheVariants.{TransitFull}
 use Rattle.memory.specs.declared.request.Request.{Request}
-use Rattle.operators.specs.Modes.{sending, wants_reply, word_after}
+use Rattle.operators.specs.Modes.{sending, wants_reply, word_after, mode_wants_reply}
 use Rattle.operators.specs.declared.mode.Mode.{Mode}
 use Rattle.operators.specs.declared.mode.Mode.TheVariants.{Load, Store, Mp, Sync}
 use Rattle.machine.specs.Histories.{cell_at, is_load}
 use Rattle.machine.specs.Soundness.{Due, due_from, places_due}
-use Rattle.machine.specs.Turns.{SentAll, request_at, requests_from, word_sent, has_replies}
+use Rattle.machine.specs.Turns.{SentAll, request_at, requests_from, word_sent}
 use Rattle.machine.specs.declared.record.Record.{Record}
 use Rattle.machine.specs.declared.record.Stored.{Stored}
 
@@ -55,7 +55,7 @@ one_reply q v w wants sends = sends.transit ∙ cond-false _ _ _ (not_refused q 
 one_silent : (q : Request) (v w : View) → wants_reply q.action ≡ false → Sends q (Ok tt) v w → w.transit ≡ v.transit
 one_silent q v w silent sends = sends.transit ∙ cond-false _ _ _ (not_refused q v w sends) ∙ cond-false _ _ _ silent
 
-wants : (m : Mode) (x : ℕ) → wants_reply (sending m x) ≡ has_replies m
+wants : (m : Mode) (x : ℕ) → wants_reply (sending m x) ≡ mode_wants_reply m
 wants Load x = refl
 wants Store x = refl
 wants (Mp o) x = refl
@@ -144,7 +144,7 @@ replies_none c f (x ∷ xs) (d ∷ ds) none =
     none (replies_none c f xs ds)
 
 -- pieces that have no replies leave the transit as it is
-pub silent_kept : (r : Record) (n p : ℕ) (v w : View) → has_replies r.program.mode ≡ false → SentAll (requests_from r n p) v w → w.transit ≡ v.transit
+pub silent_kept : (r : Record) (n p : ℕ) (v w : View) → mode_wants_reply r.program.mode ≡ false → SentAll (requests_from r n p) v w → w.transit ≡ v.transit
 silent_kept r zero p v w silent sent = ap (λ (x : View). x.transit) sent
 silent_kept r (suc n) p v w silent (x, (sends, rest)) =
     silent_kept r n (p + 1) x w silent rest ∙ one_silent (request_at r p) v x (wants r.program.mode (word_sent r p) ∙ silent) sends
@@ -155,7 +155,7 @@ pub record Brought (c : ℕ) (f : ℕ → Option ℕ) (d n p : ℕ) (v w : View)
   pub added : w.transit ≡ v.transit ++ words
   pub good : Replies c f words (due_from n d p)
 
-pub brought : (c : ℕ) (f : ℕ → Option ℕ) (d : ℕ) (r : Record) (n p : ℕ) (v w : View) → has_replies r.program.mode ≡ true → Apart r n p
+pub brought : (c : ℕ) (f : ℕ → Option ℕ) (d : ℕ) (r : Record) (n p : ℕ) (v w : View) → mode_wants_reply r.program.mode ≡ true → Apart r n p
     → (d ≡ c → (q : ℕ) → p ≤ q → q < p + n → v.cell (cell_for r q) ≡ f q) → SentAll (requests_from r n p) v w → Brought c f d n p v w
 brought c f d r zero p v w replies apart good sent = record { words = []; added = ap (λ (x : View). x.transit) sent ∙ sym (append-nil v.transit); good = tt }
 brought c f d r (suc n) p v w replies apart good (x, (sends, rest)) =

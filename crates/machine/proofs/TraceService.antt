@@ -5,13 +5,13 @@ use Rattle.std.proofs.lemmas.Bool.{cond-true, cond-false, lt-ltb, le-ltb, cases_
 use Rattle.std.specs.Option.{option_map}
 use Rattle.memory.specs.Views.{View}
 use Rattle.numbers.specs.declared.channel.Channel.{Channel}
-use Rattle.operators.specs.Modes.{sending, word_after}
-use Rattle.program.specs.Pieces.{boundary}
+use Rattle.operators.specs.Modes.{sending, word_after, mode_wants_reply}
+use Rattle.program.specs.Pieces.{boundary, span_len}
 use Rattle.machine.specs.Histories.{Begun, cell_at, is_load, Conflict}
 use Rattle.machine.specs.Laws.{word_of, cell_alone}
 use Rattle.machine.specs.Soundness.{Due, due_from, dues}
 use Rattle.machine.specs.Steps.{Seen}
-use Rattle.machine.specs.Turns.{SentAll, requests, word_sent, has_replies, next_piece, piece_length, final, served_record}
+use Rattle.machine.specs.Turns.{SentAll, requests, word_sent, next_piece, final, served_record}
 use Rattle.machine.specs.declared.piece.Piece.{Piece}
 use Rattle.machine.specs.declared.record.Record.{Record}
 use Rattle.machine.specs.declared.record.Stored.{Stored}
@@ -22,7 +22,7 @@ use Rattle.machine.proofs.TraceSends.{cell_small, cells_apart, cell_for, others_
 
 -- how many requests the piece has, and where it begins
 abbrev pub size : Record → ℕ
-size r = piece_length (next_piece r)
+size r = span_len (next_piece r)
 
 abbrev pub from : Record → ℕ
 from r = r.program.first + r.counts.sent
@@ -57,18 +57,18 @@ piece_apart r fits i j a b c d e =
 
 -- the replies that are due after the service of channel d
 abbrev pub served_dues : Record → ℕ → List Due → List Due
-served_dues r d ds = cond (has_replies r.program.mode) (ds ++ due_from (size r) d (from r)) ds
+served_dues r d ds = cond (mode_wants_reply r.program.mode) (ds ++ due_from (size r) d (from r)) ds
 
 pub dues_append : (ps qs : List Piece) → dues (ps ++ qs) ≡ dues ps ++ dues qs
 dues_append [] qs = refl
 dues_append (p ∷ ps) qs = ap (λ (l : List Due). due_from p.due p.channel.0 p.next.0 ++ l) (dues_append ps qs) ∙ sym (append_assoc (due_from p.due p.channel.0 p.next.0) (dues ps) (dues qs))
 
 pub served_dues_is : (r : Record) (d : Channel) (ps : List Piece)
-    → dues (cond (has_replies r.program.mode) (ps ++ record { channel = d; next = record { 0 = (next_piece r).from }; due = piece_length (next_piece r); last = final r } ∷ []) ps)
+    → dues (cond (mode_wants_reply r.program.mode) (ps ++ record { channel = d; next = record { 0 = (next_piece r).from }; due = span_len (next_piece r); last = final r } ∷ []) ps)
     ≡ served_dues r d.0 (dues ps)
-served_dues_is r d ps = go (has_replies r.program.mode)
+served_dues_is r d ps = go (mode_wants_reply r.program.mode)
   where
-    go : (b : Bool) → dues (cond b (ps ++ record { channel = d; next = record { 0 = (next_piece r).from }; due = piece_length (next_piece r); last = final r } ∷ []) ps)
+    go : (b : Bool) → dues (cond b (ps ++ record { channel = d; next = record { 0 = (next_piece r).from }; due = span_len (next_piece r); last = final r } ∷ []) ps)
         ≡ cond b (dues ps ++ due_from (size r) d.0 (from r)) (dues ps)
     go true = dues_append ps _ ∙ ap (λ (l : List Due). dues ps ++ l) (append-nil (due_from (size r) d.0 (from r)))
     go false = refl
@@ -78,15 +78,15 @@ pub serve_replies : (c : ℕ) (f : ℕ → Option ℕ) (d : ℕ) (r : Record) (v
     → Replies c f v.transit ds → Replies c f x.transit (served_dues r d ds)
 serve_replies c f d r v x ds fits tied good sent before =
     ⊎_elim
-    (λ (some : has_replies r.program.mode ≡ true).
+    (λ (some : mode_wants_reply r.program.mode ≡ true).
     let more = brought c f d r (size r) (from r) v x some (piece_apart r fits) good sent in
     let all = replies_append c f v.transit more.words ds (due_from (size r) d (from r)) tied before more.good in
     subst (λ (l : List Due). Replies c f x.transit l) (sym (cond-true _ _ _ some))
     (subst (λ (l : List (Option ℕ)). Replies c f l (ds ++ due_from (size r) d (from r))) (sym more.added) all))
-    (λ (none : has_replies r.program.mode ≡ false).
+    (λ (none : mode_wants_reply r.program.mode ≡ false).
     subst (λ (l : List Due). Replies c f x.transit l) (sym (cond-false _ _ _ none))
     (subst (λ (l : List (Option ℕ)). Replies c f l ds) (sym (silent_kept r (size r) (from r) v x none sent)) before))
-    (cases_Bool (has_replies r.program.mode))
+    (cases_Bool (mode_wants_reply r.program.mode))
 
 -- ANOTHER CHANNEL
 

@@ -11,7 +11,6 @@ use Rattle.machine.specs.declared.answer.Answer.TheVariants as answer
 use Rattle.machine.specs.declared.answer.Landing.{Landing}
 use Rattle.machine.specs.declared.answer.Landing.TheVariants as lands
 use Rattle.machine.specs.declared.answer.Service.{Service}
-use Rattle.machine.specs.declared.answer.Service.TheVariants as serves
 use Rattle.machine.specs.declared.record.Stored.{Stored}
 
 -- what is seen after a history
@@ -136,9 +135,9 @@ held c [] = false
 held c (e ∷ h) = cond (given_to c e.answer) true (cond (releases_by c e.call e.answer) false (held c h))
 
 -- the requests that turn's answers gave for the channel since its counts were set back
-abbrev pub sent_by : ℕ → Service → ℕ
-sent_by c serves.Nothing = 0
-sent_by c (serves.Sent d n) = cond (d.0 == c) n 0
+abbrev pub sent_by : ℕ → Option Service → ℕ
+sent_by c None = 0
+sent_by c (Some s) = cond (s.channel.0 == c) s.requests 0
 
 -- the requests that an answer tells for the channel
 abbrev pub sent_in : ℕ → Answer → ℕ

@@ -4,19 +4,17 @@ use mir.Val.{bool_byte}
 use Rattle.std.specs.Option.{option_map}
 use Rattle.memory.specs.Views.{View, longest}
 use Rattle.operators.specs.Choices.{join_by}
-use Rattle.operators.specs.Modes.{sending, word_after}
+use Rattle.operators.specs.Modes.{sending, word_after, mode_wants_reply}
 use Rattle.operators.specs.declared.choice.Choice.{Choice}
 use Rattle.operators.specs.declared.mode.Mode.{Mode}
 use Rattle.operators.specs.declared.mode.Mode.TheVariants.{Load, Store, Mp, Sync}
 use Rattle.machine.specs.Histories.{now_seen, runs, landed_told, sent_told, reserved_told, given_to, held, starts, Starts, Begun, begun, sent_count, landed_count, turns_since, stopped, touched, cell_at, Names, Clashes}
-use Rattle.machine.specs.Means.{Mean}
-use Rattle.machine.specs.Soundness.{new_mean}
+use Rattle.machine.specs.declared.state.State.{State}
+use Rattle.machine.specs.Soundness.{new_state}
 use Rattle.machine.specs.Steps.{Call, Step, Seen, seen, History, Run}
-use Rattle.machine.specs.Turns.{has_replies}
 use Rattle.machine.specs.declared.answer.Answer.{Answer}
 use Rattle.machine.specs.declared.answer.Answer.TheVariants as answer
 use Rattle.machine.specs.declared.answer.Service.{Service}
-use Rattle.machine.specs.declared.answer.Service.TheVariants as serves
 use Rattle.machine.specs.declared.fault.ChannelFault.{ChannelFault}
 use Rattle.machine.specs.declared.fault.ChannelFault.TheVariants.{Empty}
 
@@ -95,9 +93,9 @@ words_of c None a n i = []
 words_of c (Some b) a n i = words_from c b a n i
 
 -- the words that a service sent to the cell
-abbrev pub words_by : Service → ℕ → History → List ℕ
-words_by serves.Nothing a h = []
-words_by (serves.Sent d n) a h = words_of d.0 (begun d.0 h) a n (sent_count d.0 h)
+abbrev pub words_by : Option Service → ℕ → History → List ℕ
+words_by None a h = []
+words_by (Some s) a h = words_of s.channel.0 (begun s.channel.0 h) a s.requests (sent_count s.channel.0 h)
 
 -- the words that a call with this answer sent to the cell
 abbrev pub words_in : Answer → ℕ → History → List ℕ
@@ -147,7 +145,7 @@ Ends opening c (e ∷ h) = (runs (now_seen opening h) c ≡ true) × (runs e.aft
 -- Programs end: no program still runs so many turns after its start; none ends with a reply due; none ends unstopped with a request unsent.
 pub record Bounded (opening : Seen) (h : History) : Type 0 where
   pub soon : (c : ℕ) → c < 16 → runs (now_seen opening h) c ≡ true → turns_since c h < turn_bound
-  pub none_due : (c : ℕ) → c < 16 → (b : Begun) → begun c h ≡ Some b → Ends opening c h → has_replies b.program.mode ≡ true
+  pub none_due : (c : ℕ) → c < 16 → (b : Begun) → begun c h ≡ Some b → Ends opening c h → mode_wants_reply b.program.mode ≡ true
       → landed_count c h ≡ sent_count c h
   pub none_unsent : (c : ℕ) → c < 16 → (b : Begun) → begun c h ≡ Some b → Ends opening c h → stopped c h ≡ false
       → sent_count c h ≡ b.program.last + 1 - b.program.first
@@ -172,13 +170,13 @@ pub record Law (opening : Seen) (h : History) : Type 0 where
   pub allotted : Allotted opening h
 
 -- What every call says of every run that it goes on from: the step that it makes, the longer run, and the law of that run.
-pub record Keeps (call : Call) (answer : Answer) (before : Mean) (was : View) (after : Mean) (is : View) : Type 0 where
+pub record Keeps (call : Call) (answer : Answer) (before : State) (was : View) (after : State) (is : View) : Type 0 where
   pub step : Step call answer before was after is
-  pub extends : (cells : View) (h : History) → Run new_mean cells h before was → Run new_mean cells (record { call = call; answer = answer; after = seen after is } ∷ h) after is
-  pub law : (cells : View) (h : History) → cells.transit ≡ [] → Run new_mean cells h before was
-      → Law (seen new_mean cells) (record { call = call; answer = answer; after = seen after is } ∷ h)
+  pub extends : (cells : View) (h : History) → Run new_state cells h before was → Run new_state cells (record { call = call; answer = answer; after = seen after is } ∷ h) after is
+  pub law : (cells : View) (h : History) → cells.transit ≡ [] → Run new_state cells h before was
+      → Law (seen new_state cells) (record { call = call; answer = answer; after = seen after is } ∷ h)
 
 -- What a new mover says: the empty run, and its law.
-pub record Opens (m : Mean) (v : View) : Type 0 where
-  pub run : Run new_mean v [] m v
-  pub law : Law (seen new_mean v) []
+pub record Opens (m : State) (v : View) : Type 0 where
+  pub run : Run new_state v [] m v
+  pub law : Law (seen new_state v) []

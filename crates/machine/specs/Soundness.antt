@@ -6,14 +6,15 @@ use Rattle.memory.specs.Views.{View}
 use Rattle.numbers.specs.declared.channel.Channel.{Channel}
 use Rattle.program.specs.Pieces.{count_up}
 use Rattle.machine.specs.Calls.{empty_window}
-use Rattle.machine.specs.Means.{Mean, record_of, cleared}
-use Rattle.machine.specs.Turns.{has_replies}
+use Rattle.machine.specs.declared.state.State.{State}
+use Rattle.machine.specs.Means.{record_of, cleared}
+use Rattle.operators.specs.Modes.{mode_wants_reply}
 use Rattle.machine.specs.declared.piece.Piece.{Piece}
 use Rattle.machine.specs.declared.record.Record.{Record}
 
 -- a new mover: all channels free, all windows empty, all records clear, both lines empty, no quiet mark, nothing served yet
-abbrev pub new_mean : Mean
-new_mean = record {
+abbrev pub new_state : State
+new_state = record {
   records = replicate 16 (cleared false empty_window);
   singles = [];
   blocks = [];
@@ -69,7 +70,7 @@ PiecesFit (p ∷ ps) = (p.channel.0 < 16) × (1 ≤ p.due) × (p.due ≤ 8) × P
 
 -- how many replies of a channel's program are due
 abbrev pub still_due : Record → ℕ
-still_due r = cond (r.flags.running && has_replies r.program.mode) (r.counts.sent - r.counts.landed) 0
+still_due r = cond (r.flags.running && mode_wants_reply r.program.mode) (r.counts.sent - r.counts.landed) 0
 
 -- what is known of one channel: its record r, how often it stands among the singles (s) and among the blocks (b), how many final
 -- pieces of it are in flight (f), and the places of its replies that are due
@@ -91,11 +92,11 @@ pub record Stands (r : Record) (s b f : ℕ) (places : List ℕ) : Type 0 where
   pub due : places ≡ count_up (still_due r) (r.program.first + r.counts.landed)
 
 -- what is known of one channel of a mover
-abbrev pub ChannelSound : Mean → ℕ → Type 0
+abbrev pub ChannelSound : State → ℕ → Type 0
 ChannelSound m c = Stands (record_of m c) (times c m.singles) (times c m.blocks) (finals c m.flight) (places_due c (dues m.flight))
 
 -- what is known of a mover over a memory of this meaning
-pub record Sound (m : Mean) (v : View) : Type 0 where
+pub record Sound (m : State) (v : View) : Type 0 where
   pub wide : length m.records ≡ 16
   pub channels : (c : ℕ) → c < 16 → ChannelSound m c
   pub singles_fit : ChannelsFit m.singles

@@ -1,5 +1,5 @@
 -- What a turn answers and does: the landing, and then the service.
-use Rattle.std.specs.Prelude.{◌≡◌, ℕ, zero, suc, ◌+◌, ◌-◌, ◌%◌, ◌^◌, Bool, true, false, cond, not, ◌&&◌, ◌||◌, List, [], ◌∷◌, ◌++◌, length, is_some, Some, None, Ok, Option, ◌==◌, nat_lt, slice_index_or, slice_set}
+use Rattle.std.specs.Prelude.{◌≡◌, ℕ, zero, suc, ◌+◌, ◌-◌, ◌%◌, ◌^◌, Bool, cond, not, ◌&&◌, ◌||◌, List, [], ◌∷◌, ◌++◌, length, is_some, Some, None, Ok, Option, ◌==◌, nat_lt, slice_index_or, slice_set}
 use Rattle.std.specs.Option.{unwrap_or}
 use Rattle.memory.specs.Effects.{Sends, Takes}
 use Rattle.memory.specs.Views.{View}
@@ -7,15 +7,13 @@ use Rattle.memory.specs.declared.request.Request.{Request}
 use Rattle.memory.specs.declared.request.Taken.{Taken}
 use Rattle.memory.specs.declared.request.Taken.TheVariants as taken
 use Rattle.numbers.specs.declared.channel.Channel.{Channel}
-use Rattle.operators.specs.Modes.{sending}
-use Rattle.operators.specs.declared.mode.Mode.{Mode}
-use Rattle.operators.specs.declared.mode.Mode.TheVariants.{Load, Store, Mp, Sync}
-use Rattle.program.specs.Pieces.{Span, from_to, first_piece}
-use Rattle.machine.specs.Means.{Mean, record_of, with_record}
+use Rattle.operators.specs.Modes.{sending, mode_wants_reply}
+use Rattle.program.specs.Pieces.{Span, from_to, first_piece, span_len}
+use Rattle.machine.specs.declared.state.State.{State}
+use Rattle.machine.specs.Means.{record_of, with_record}
 use Rattle.machine.specs.declared.answer.Landing.{Landing}
 use Rattle.machine.specs.declared.answer.Landing.TheVariants as lands
 use Rattle.machine.specs.declared.answer.Service.{Service}
-use Rattle.machine.specs.declared.answer.Service.TheVariants as serves
 use Rattle.machine.specs.declared.answer.Turned.{Turned}
 use Rattle.machine.specs.declared.piece.Piece.{Piece}
 use Rattle.machine.specs.declared.record.Record.{Record}
@@ -23,40 +21,27 @@ use Rattle.machine.specs.declared.record.Record.{Record}
 -- LANDING. A reply with a word fills the oldest piece's next place; one with no word empties that place and sets the error bit.
 -- The landed count rises by one. When the final piece's last reply lands, the channel ceases to run.
 abbrev pub landed_record : Piece → Option ℕ → Record → Record
-landed_record p reply r = record {
-  flags = record {
-    reserved = r.flags.reserved;
-    running = r.flags.running && not (p.last && p.due == 1);
-    error = r.flags.error || not (is_some reply);
-    stop = r.flags.stop;
-  };
-  counts = record { sent = r.counts.sent; landed = r.counts.landed + 1 };
-  program = r.program;
+landed_record p reply r = record r {
+  flags = record r.flags { running = r.flags.running && not (p.last && p.due == 1); error = r.flags.error || not (is_some reply) };
+  counts = record r.counts { landed = r.counts.landed + 1 };
   window = slice_set r.window p.next.0 reply;
 }
 
 -- the piece stays in flight until its last reply has landed
 abbrev pub flight_after : Piece → List Piece → List Piece
 flight_after p rest =
-    cond (p.due == 1) rest (record { channel = p.channel; next = record { 0 = p.next.0 + 1 }; due = p.due - 1; last = p.last } ∷ rest)
+    cond (p.due == 1) rest (record p { next = record { 0 = p.next.0 + 1 }; due = p.due - 1 } ∷ rest)
 
 -- the same with these pieces in flight
-abbrev pub with_flight : Mean → List Piece → Mean
-with_flight m flight = record {
-  records = m.records;
-  singles = m.singles;
-  blocks = m.blocks;
-  flight = flight;
-  quiet = m.quiet;
-  after_single = m.after_single;
-}
+abbrev pub with_flight : State → List Piece → State
+with_flight m flight = record m { flight = flight }
 
 -- the state after a reply to the oldest piece
-abbrev pub land_piece : Mean → Piece → List Piece → Option ℕ → Mean
+abbrev pub land_piece : State → Piece → List Piece → Option ℕ → State
 land_piece m p rest reply = with_flight (with_record m p.channel.0 (landed_record p reply (record_of m p.channel.0))) (flight_after p rest)
 
 -- what the memory answered, if it was asked
-abbrev pub landed : Mean → List Piece → Taken → Mean
+abbrev pub landed : State → List Piece → Taken → State
 landed m [] t = m
 landed m (p ∷ rest) taken.Nothing = m
 landed m (p ∷ rest) taken.NotYet = m
@@ -77,16 +62,12 @@ chosen (s ∷ ss) [] after = Some s
 chosen (s ∷ ss) (b ∷ bs) after = cond after (Some b) (Some s)
 
 -- one is chosen if fewer than four pieces are in flight
-abbrev pub serviced : Mean → Option Channel
+abbrev pub serviced : State → Option Channel
 serviced m = cond (nat_lt (length m.flight) 4) (chosen m.singles m.blocks m.after_single) None
 
 -- the places of the channel's next piece
 abbrev pub next_piece : Record → Span
 next_piece r = first_piece (from_to (r.program.first + r.counts.sent) r.program.last)
-
--- how many places a piece has
-abbrev pub piece_length : Span → ℕ
-piece_length s = s.to + 1 - s.from
 
 -- the piece is final if it holds the last place or if a stop was accepted
 abbrev pub final : Record → Bool
@@ -110,27 +91,13 @@ requests_from r (suc n) p = request_at r p ∷ requests_from r n (p + 1)
 
 -- the requests of the channel's next piece
 abbrev pub requests : Record → List Request
-requests r = requests_from r (piece_length (next_piece r)) (next_piece r).from
-
--- LOAD and MP have replies
-abbrev pub has_replies : Mode → Bool
-has_replies Load = true
-has_replies Store = false
-has_replies (Mp o) = true
-has_replies (Sync o) = false
+requests r = requests_from r (span_len (next_piece r)) (next_piece r).from
 
 -- the sent count rises with each request; a final STORE or SYNC piece ends the run as it is sent
 abbrev pub served_record : Record → Record
-served_record r = record {
-  flags = record {
-    reserved = r.flags.reserved;
-    running = r.flags.running && not (final r && not (has_replies r.program.mode));
-    error = r.flags.error;
-    stop = r.flags.stop;
-  };
-  counts = record { sent = r.counts.sent + piece_length (next_piece r); landed = r.counts.landed };
-  program = r.program;
-  window = r.window;
+served_record r = record r {
+  flags = record r.flags { running = r.flags.running && not (final r && not (mode_wants_reply r.program.mode)) };
+  counts = record r.counts { sent = r.counts.sent + span_len (next_piece r) };
 }
 
 -- a list without its first item
@@ -139,30 +106,30 @@ rest [] = []
 rest (x ∷ xs) = xs
 
 -- a LOAD or MP piece is then in flight; a block whose piece was not final goes to the end of its line
-abbrev pub serve : Mean → Channel → Record → Mean
+abbrev pub serve : State → Channel → Record → State
 serve m c r = record {
   records = slice_set m.records c.0 (served_record r);
   singles = cond r.program.single (rest m.singles) m.singles;
   blocks = cond r.program.single m.blocks (cond (final r) (rest m.blocks) (rest m.blocks ++ c ∷ []));
-  flight = cond (has_replies r.program.mode)
-      (m.flight ++ record { channel = c; next = record { 0 = (next_piece r).from }; due = piece_length (next_piece r); last = final r } ∷ [])
+  flight = cond (mode_wants_reply r.program.mode)
+      (m.flight ++ record { channel = c; next = record { 0 = (next_piece r).from }; due = span_len (next_piece r); last = final r } ∷ [])
       m.flight;
   quiet = m.quiet;
   after_single = r.program.single;
 }
 
 -- the state after a service, if a channel was chosen
-abbrev pub served : Mean → Option Channel → Mean
+abbrev pub served : State → Option Channel → State
 served m None = m
 served m (Some c) = serve m c (record_of m c.0)
 
 -- what the service tells
-abbrev pub service : Mean → Option Channel → Service
-service m None = serves.Nothing
-service m (Some c) = serves.Sent c (piece_length (next_piece (record_of m c.0)))
+abbrev pub service : State → Option Channel → Option Service
+service m None = None
+service m (Some c) = Some (record { channel = c; requests = span_len (next_piece (record_of m c.0)) })
 
 -- the requests of a service
-abbrev pub requested : Mean → Option Channel → List Request
+abbrev pub requested : State → Option Channel → List Request
 requested m None = []
 requested m (Some c) = requests (record_of m c.0)
 
@@ -177,7 +144,7 @@ TakenOnce [] t before after = (t ≡ taken.Nothing) × (after ≡ before)
 TakenOnce (p ∷ ps) t before after = Takes t before after
 
 -- a turn, with what the memory answered and what it meant between landing and service
-pub record Turns (answer : Turned) (before after : Mean) (was is : View) : Type 0 where
+pub record Turns (answer : Turned) (before after : State) (was is : View) : Type 0 where
   pub answered : Taken
   pub between : View
   pub takes : TakenOnce before.flight answered was between

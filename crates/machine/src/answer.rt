@@ -11,19 +11,18 @@ pub enum Landing {
     Reply(Channel, Place, bool),
 }
 
-// What a turn sent.
+// What a turn sent: for which channel, and how many requests.
 #[derive(Clone, Copy)]
-pub enum Service {
-    Nothing,
-    // for which channel, and how many requests
-    Sent(Channel, u8),
+pub struct Service {
+    pub channel: Channel,
+    pub requests: u8,
 }
 
 // What a turn did: the landing, and then the service.
 #[derive(Clone, Copy)]
 pub struct Turned {
     pub landing: Landing,
-    pub service: Service,
+    pub service: Option<Service>,
 }
 
 // What a call answers.

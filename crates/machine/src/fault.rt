@@ -1,8 +1,10 @@
 ghost use Rattle.std.specs.Prelude.{◌≡◌};
 ghost use Rattle.machine.specs.Faults.{channel_told};
-ghost use Rattle.machine.specs.declared.fault.ChannelFault.TheVariants.{Program, Sheet};
+ghost use Rattle.machine.specs.declared.fault.ChannelFault.TheVariants.{NoChannel, NoPlace, Program, Sheet};
 
+use numbers::channel::NoChannel;
 use numbers::layer::Layer;
+use numbers::place::NoPlace;
 use numbers::refusal::Refusal;
 use program::fault::ProgramFault;
 use sheet::fault::SheetFault;
@@ -65,6 +67,22 @@ impl Refusal for ChannelFault {
             ChannelFault::Sheet(fault) => fault.layer(),
             _ => Layer::Channel,
         }
+    }
+}
+
+impl From<NoChannel> for ChannelFault {
+    ghost from_gives = { λ _ r. r ≡ NoChannel };
+
+    fn from(_: NoChannel) -> ChannelFault {
+        Self::NoChannel
+    }
+}
+
+impl From<NoPlace> for ChannelFault {
+    ghost from_gives = { λ _ r. r ≡ NoPlace };
+
+    fn from(_: NoPlace) -> ChannelFault {
+        Self::NoPlace
     }
 }
 

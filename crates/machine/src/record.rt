@@ -1,7 +1,11 @@
+ghost use Rattle.std.specs.Prelude.{◌≡◌};
+ghost use Rattle.machine.specs.Calls.{stored};
+
 use operators::mode::Mode;
+use program::kind::Program;
 
 // The conditions of a channel.
-#[derive(Clone, Copy)]
+#[derive(Clone, Copy, Default)]
 pub struct Flags {
     pub reserved: bool,
     pub running: bool,
@@ -12,13 +16,14 @@ pub struct Flags {
 }
 
 // How many requests of the channel's program were sent, and how many replies have landed.
-#[derive(Clone, Copy)]
+#[derive(Clone, Copy, Default)]
 pub struct Counts {
     pub sent: u16,
     pub landed: u16,
 }
 
-// A program in plain numbers. The word is a single's own.
+// A program in plain numbers: a rule of the project, so that a record is data alone. The word is a single's own, and 0 where the
+// program has none.
 #[derive(Clone, Copy)]
 pub struct Stored {
     pub single: bool,
@@ -36,4 +41,29 @@ pub struct Record {
     pub counts: Counts,
     pub program: Stored,
     pub window: [Option<u32>; 256],
+}
+
+impl From<Program> for Stored {
+    ghost from_gives = { λ program r. r ≡ stored program };
+
+    fn from(program: Program) -> Stored {
+        match program {
+            Program::Block(block) => Stored {
+                single: false,
+                mode: block.mode,
+                first: block.range.first().0,
+                last: block.range.last().0,
+                cell: block.cell.0,
+                word: 0,
+            },
+            Program::Single(single) => Stored {
+                single: true,
+                mode: single.action.mode(),
+                first: single.place.0,
+                last: single.place.0,
+                cell: single.cell.0,
+                word: single.action.word().unwrap_or(0),
+            },
+        }
+    }
 }

@@ -1,3 +1,2 @@
 pub mod Asking
 pub mod Entries
-pub mod Taking

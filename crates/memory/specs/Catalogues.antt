@@ -1,12 +1,9 @@
 -- The catalogue memory, by its entries, its replies in transit and its wait.
-use Rattle.std.specs.Prelude.{◌≡◌, ℕ, ◌-◌, ◌<◌, ◌≤◌, Bool, cond, ◌&&◌, ◌||◌, List, [], ◌∷◌, ◌++◌, length, get_or, Some, None, Ok, Err, vec_items, Option, Result, ◌==◌, nat_le, nat_lt, slice_index_or, slice_set}
+use Rattle.std.specs.Prelude.{◌≡◌, ℕ, ◌-◌, ◌<◌, Bool, cond, ◌&&◌, ◌||◌, List, [], ◌∷◌, ◌++◌, length, get_or, position, Some, None, Ok, Err, Option, Result, ◌==◌, nat_le, nat_lt, slice_index_or, slice_set}
 use Rattle.numbers.specs.Rising.{not_rising}
-use Rattle.numbers.specs.Search.{first_index}
 use Rattle.operators.specs.Modes.{wants_reply, word_after}
 use Rattle.operators.specs.declared.action.Action.{Action}
-use Rattle.queue.specs.Queues.{items, Sound}
 use Rattle.memory.specs.Views.{View, room}
-use Rattle.memory.specs.declared.catalogue.Catalogue.{Catalogue}
 use Rattle.memory.specs.declared.catalogue.Entry.{Entry}
 use Rattle.memory.specs.declared.fault.MemoryFault.{MemoryFault}
 use Rattle.memory.specs.declared.fault.MemoryFault.TheVariants.{Size, NotRising, TransitFull}
@@ -25,7 +22,7 @@ abbrev pub is_cell : ℕ → Entry → Bool
 is_cell a e = cell_of e == a
 
 abbrev pub entry_index : ℕ → List Entry → Option ℕ
-entry_index a es = first_index (is_cell a) es
+entry_index a es = position (is_cell a) es
 
 -- the word of the entry of a cell
 abbrev pub entry_word : List Entry → ℕ → Option ℕ
@@ -60,8 +57,8 @@ abbrev pub catalogue_check : List Entry → Result (Unit {0}) MemoryFault
 catalogue_check es = cond (nat_lt (length es) 1 || nat_lt 256 (length es)) (Err Size) (rising_check es)
 
 -- exactly the listed cells are fitted
-abbrev pub view_of : Catalogue → View
-view_of m = record { cell = entry_word (vec_items m.entries); transit = items m.transit; wait = m.wait }
+abbrev pub catalogue_view : List Entry → List (Option ℕ) → ℕ → View
+catalogue_view entries transit wait = record { cell = entry_word entries; transit = transit; wait = wait }
 
 -- the wait of a reply that becomes the first one; 0 where none is left
 abbrev pub wait_for : List (Option ℕ) → ℕ
@@ -83,10 +80,3 @@ with_reply action reply transit = cond (wants_reply action && nat_lt (length tra
 
 abbrev pub wait_with : Action → List (Option ℕ) → ℕ → ℕ
 wait_with action transit wait = cond (wants_reply action && length transit == 0) 3 wait
-
--- what the making gives and every function keeps
-pub record CatalogueSound (m : Catalogue) : Type 0 where
-  pub rising : not_rising cell_of (vec_items m.entries) ≡ None
-  pub transit : Sound m.transit
-  -- no reply waits longer than it did when it became the first, and nothing waits for no reply
-  pub wait : m.wait ≤ wait_for (items m.transit)

@@ -1,10 +1,8 @@
 -- The flat memory, by its words and its replies in transit.
-use Rattle.std.specs.Prelude.{ℕ, cond, ◌||◌, List, length, Some, None, Ok, Err, vec_items, Option, Result, nat_lt, slice_index}
-use Rattle.queue.specs.Queues.{items}
+use Rattle.std.specs.Prelude.{ℕ, cond, ◌||◌, List, length, Some, None, Ok, Err, Option, Result, nat_lt, slice_index}
 use Rattle.memory.specs.Views.{View}
 use Rattle.memory.specs.declared.fault.MemoryFault.{MemoryFault}
 use Rattle.memory.specs.declared.fault.MemoryFault.TheVariants.{Size}
-use Rattle.memory.specs.declared.flat.Flat.{Flat}
 
 -- cell a is fitted when a is below the number of words; its wait is always 0
 abbrev pub flat_view : List ℕ → List (Option ℕ) → View
@@ -13,9 +11,6 @@ flat_view words transit = record {
   transit = transit;
   wait = 0;
 }
-
-abbrev pub flat_of : Flat → View
-flat_of m = flat_view (vec_items m.words) (items m.transit)
 
 -- check 41: 1 to 65,536 words
 abbrev pub flat_check : List ℕ → Result (Unit {0}) MemoryFault

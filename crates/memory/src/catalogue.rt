@@ -1,7 +1,8 @@
-ghost use Rattle.std.specs.Prelude.{◌≡◌, ◌<◌, List, [], length, Ok};
-ghost use Rattle.memory.specs.Catalogues.{cell_of, catalogue_check, view_of, wait_left, entry_index, acted, Found, room_for, with_reply, wait_with, CatalogueSound};
+ghost use Rattle.std.specs.Prelude.{◌≡◌, ◌<◌, ◌≤◌, [], length, None, Ok};
+ghost use Rattle.numbers.specs.Rising.{not_rising};
+ghost use Rattle.memory.specs.Catalogues.{cell_of, catalogue_check, catalogue_view, wait_for, wait_left, entry_index, acted, Found, room_for, with_reply, wait_with};
 ghost use Rattle.memory.specs.Effects.{Sends, Takes};
-ghost use Rattle.queue.specs.Queues.{items};
+ghost use Rattle.memory.specs.Views.{room};
 ghost use Rattle.std.proofs.Common.{rules};
 
 use crate::fault::MemoryFault;
@@ -25,6 +26,10 @@ pub struct Catalogue {
     entries: Vec<Entry>,
     transit: Queue<Option<u32>, 32>,
     wait: u8,
+    ghost rising: { not_rising cell_of entries.items ≡ None },
+    ghost few: { length transit ≤ room },
+    // no reply waits longer than it did when it became the first, and nothing waits for no reply
+    ghost short: { wait ≤ wait_for transit },
 }
 
 impl Keyed for Entry {
@@ -35,18 +40,6 @@ impl Keyed for Entry {
     }
 }
 
-fn find(entries: &[Entry], cell: Cell) -> Option<usize>
-    ensures index { result ≡ entry_index cell.0 entries.now }
-    ensures found { Found cell.0 entries.now result }
-{
-    for i in 0..entries.len() {
-        if entries[i].cell.0 == cell.0 {
-            return Some(i);
-        }
-    }
-    None
-}
-
 impl Catalogue {
     // Refuses a number of entries that is not 1 to 256, and then cells that do not rise.
     pub fn check(entries: &Vec<Entry>) -> Result<(), MemoryFault>
@@ -55,17 +48,16 @@ impl Catalogue {
         if entries.len() < 1 || entries.len() > 256 {
             return Err(MemoryFault::Size);
         }
-        match first_not_rising(entries.as_slice()) {
-            Some(index) => Err(MemoryFault::NotRising(index as u32)),
-            None => Ok(()),
-        }
+        first_not_rising(entries.as_slice()).map_or(
+            Ok(()),
+            |index| Err(MemoryFault::NotRising(index as u32)),
+        )
     }
 
     // The memory of these entries, with nothing in transit. The check was passed before.
     pub fn new(entries: Vec<Entry>) -> Catalogue
         requires { catalogue_check entries.items ≡ Ok tt }
-        ensures sound { CatalogueSound result }
-        ensures view { (result.entries.items ≡ entries.items) × (items result.transit ≡ []) × (result.wait ≡ 0) }
+        ensures { (result.entries.items ≡ entries.items) × (result.transit ≡ []) × (result.wait ≡ 0) }
     {
         Catalogue {
             entries,
@@ -76,14 +68,22 @@ impl Catalogue {
 }
 
 impl Catalogue {
+    // The index of the entry of a cell, or none where the cell is not listed.
+    fn find(&self, cell: Cell) -> Option<usize>
+        ensures index { result ≡ entry_index cell.0 self.now.entries.items }
+        ensures found { Found cell.0 self.now.entries.items result }
+    {
+        self.entries
+            .binary_search_by_key(&cell.0, |entry| entry.cell.0)
+            .ok()
+    }
+
     // Puts the reply of an action that wants one into the transit. A reply that becomes the first one waits three takes.
     fn reply(&mut self, action: Action, reply: Option<u32>) -> Result<(), MemoryFault>
-        requires { CatalogueSound self.old }
-        ensures sound { CatalogueSound self.new }
         ensures entries { self.new.entries ≡ self.old.entries }
-        ensures answer { result ≡ room_for action (items self.old.transit) }
-        ensures transit { items self.new.transit ≡ with_reply action reply (items self.old.transit) }
-        ensures wait { self.new.wait ≡ wait_with action (items self.old.transit) self.old.wait }
+        ensures answer { result ≡ room_for action self.old.transit }
+        ensures transit { self.new.transit ≡ with_reply action reply self.old.transit }
+        ensures wait { self.new.wait ≡ wait_with action self.old.transit self.old.wait }
     {
         if !action.wants_reply() {
             return Ok(());
@@ -91,43 +91,31 @@ impl Catalogue {
         if self.transit.is_empty() {
             self.wait = 3;
         }
-        if self.transit.push(reply) {
-            Ok(())
-        } else {
-            Err(MemoryFault::TransitFull)
-        }
+        self.transit.push(reply)?;
+        Ok(())
     }
 
     // Carries an action out on the word of one entry.
     fn change(&mut self, index: usize, action: Action)
-        requires sound { CatalogueSound self.old }
-        requires within { index < length self.old.entries.items }
-        ensures sound { CatalogueSound self.new }
+        requires { index < length self.old.entries.items }
         ensures entries { self.new.entries.items ≡ acted self.old.entries.items index action }
         ensures rest { (self.new.transit ≡ self.old.transit) × (self.new.wait ≡ self.old.wait) }
     {
-        let entry = self.entries[index];
-        self.entries[index] = Entry {
-            cell: entry.cell,
-            word: action.word_after(entry.word),
-        };
+        let entry = &mut self.entries[index];
+        entry.word = action.word_after(entry.word);
     }
 }
 
 impl HallMemory for Catalogue {
-    ghost view = { view_of };
-
-    ghost sound = { CatalogueSound };
+    ghost view = { λ m. catalogue_view m.entries.items m.transit m.wait };
 
     ghost bounded = { Prim.search rules };
 
     fn send(&mut self, request: Request) -> Result<(), MemoryFault>
-        requires { CatalogueSound self.old }
-        ensures sound { CatalogueSound self.new }
-        ensures sends { Sends request result (view_of self.old) (view_of self.new) }
-        ensures wait { self.new.wait ≡ wait_with request.action (items self.old.transit) self.old.wait }
+        ensures sends { Sends request result (catalogue_view self.old.entries.items self.old.transit self.old.wait) (catalogue_view self.new.entries.items self.new.transit self.new.wait) }
+        ensures wait { self.new.wait ≡ wait_with request.action self.old.transit self.old.wait }
     {
-        match find(self.entries.as_slice(), request.cell) {
+        match self.find(request.cell) {
             None => self.reply(request.action, None),
             Some(i) => {
                 let word = self.entries[i].word;
@@ -139,10 +127,8 @@ impl HallMemory for Catalogue {
     }
 
     fn take(&mut self) -> Taken
-        requires { CatalogueSound self.old }
-        ensures sound { CatalogueSound self.new }
-        ensures takes { Takes result (view_of self.old) (view_of self.new) }
-        ensures wait { self.new.wait ≡ wait_left result self.old.wait (items self.new.transit) }
+        ensures takes { Takes result (catalogue_view self.old.entries.items self.old.transit self.old.wait) (catalogue_view self.new.entries.items self.new.transit self.new.wait) }
+        ensures wait { self.new.wait ≡ wait_left result self.old.wait self.new.transit }
     {
         if self.wait > 0 {
             self.wait -= 1;

@@ -1,7 +1,10 @@
+ghost use Rattle.std.specs.Prelude.{◌≡◌};
 ghost use Rattle.memory.specs.Faults.{memory_told};
+ghost use Rattle.memory.specs.declared.fault.MemoryFault.TheVariants.{TransitFull};
 
 use numbers::layer::Layer;
 use numbers::refusal::Refusal;
+use queue::full::Full;
 
 // What a hall memory, or the check before one is made, refuses.
 #[derive(Clone, Copy, PartialEq, Eq, Debug)]
@@ -43,5 +46,14 @@ impl Refusal for MemoryFault {
 
     fn layer(&self) -> Layer {
         Layer::Memory
+    }
+}
+
+// The replies in transit are the only line of a memory.
+impl From<Full> for MemoryFault {
+    ghost from_gives = { λ _ r. r ≡ TransitFull };
+
+    fn from(_: Full) -> MemoryFault {
+        Self::TransitFull
     }
 }

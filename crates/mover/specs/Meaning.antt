@@ -1,21 +1,20 @@
--- The meaning of a mover, and what its making gives and every call keeps.
-use Rattle.memory.specs.Views.{View}
+-- What a mover means, and what each call says of it.
 use Rattle.memory.specs.declared.interface.HallMemory.{Ghosts}
-use Rattle.machine.specs.Means.{Mean, mean_of}
+use Rattle.machine.specs.Laws.{Keeps}
 use Rattle.machine.specs.Soundness.{Sound}
-use Rattle.channels.specs.Standing.{LinesSound}
-use Rattle.mover.specs.declared.mover.Mover.{Mover}
+use Rattle.machine.specs.Steps.{Call}
+use Rattle.machine.specs.declared.answer.Answer.{Answer}
+use Rattle.machine.specs.declared.state.State.{State}
 
--- the meaning of the state of a mover
-abbrev pub mean : {M : Type 0} → Mover M → Mean
-mean s = mean_of s.state
+-- a mover, as callers see it: the hall memory below, and all else that it keeps
+pub record Whole (M : Type 0) : Type 0 where
+  pub memory : M
+  pub state : State
 
--- the meaning of the hall memory below
-abbrev pub hall_view : {M : Type 0} → Ghosts M → Mover M → View
-hall_view hall s = hall.view s.memory
+-- what every mover keeps: where each channel stands, and how the pieces in flight are tied to the replies in transit
+abbrev pub MoverSound : {M : Type 0} → Ghosts M → M → State → Type 0
+MoverSound hall memory state = Sound state (hall.view memory)
 
--- the memory is sound, the lines are, and what is known of a mover holds over that memory
-pub record MoverSound {M : Type 0} (hall : Ghosts M) (s : Mover M) : Type 0 where
-  pub memory : hall.sound s.memory
-  pub lines : LinesSound s.state
-  pub state : Sound (mean s) (hall.view s.memory)
+-- the step of a call, and the law of every run that goes on with it
+abbrev pub Moves : {M : Type 0} → Ghosts M → Call → Answer → Whole M → Whole M → Type 0
+Moves hall call answer before after = Keeps call answer before.state (hall.view before.memory) after.state (hall.view after.memory)

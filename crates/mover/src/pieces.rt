@@ -1,6 +1,6 @@
 ghost use Rattle.std.specs.Prelude.{◌≡◌, ◌+◌, ◌<◌, ◌≤◌, length};
-ghost use Rattle.machine.specs.Turns.{landed_record, next_piece, piece_length, final, request_at, requests_from, has_replies, served_record, SentAll};
-ghost use Rattle.program.specs.Pieces.{span, from_to};
+ghost use Rattle.machine.specs.Turns.{landed_record, next_piece, final, request_at, requests_from, served_record, SentAll};
+ghost use Rattle.program.specs.Pieces.{span, from_to, span_len};
 
 use machine::piece::Piece;
 use machine::record::Record;
@@ -9,19 +9,17 @@ use memory::request::Request;
 use numbers::cell::Cell;
 use numbers::place::Place;
 use operators::action::Action;
-use operators::mode::Mode;
 use program::range::PlaceRange;
 
 // A reply lands in the next place of the channel's oldest piece.
 pub fn land_reply(channel: &mut Record, piece: Piece, reply: Option<u32>)
-    requires long { length channel.old.window ≡ 256 }
-    requires few { channel.old.counts.landed < 256 }
+    requires { channel.old.counts.landed < 256 }
     ensures { channel.new ≡ landed_record piece reply channel.old }
 {
     channel.window[piece.next.0 as usize] = reply;
     channel.counts.landed += 1;
-    channel.flags.error = channel.flags.error | reply.is_none();
-    channel.flags.running = channel.flags.running & !(piece.last & (piece.due == 1));
+    channel.flags.error |= reply.is_none();
+    channel.flags.running &= !(piece.last & (piece.due == 1));
 }
 
 // The places of the channel's next piece, made again from the plain numbers of its record.
@@ -37,29 +35,9 @@ pub fn next_piece(channel: &Record) -> PlaceRange
     }
 }
 
-// Whether the piece is final: it holds the last place, or a stop was accepted.
-pub fn is_final(channel: &Record, piece: PlaceRange) -> bool
-    requires { span piece ≡ next_piece channel.now }
-    ensures { result ≡ final channel.now }
-{
-    (piece.last().0 == channel.program.last) | channel.flags.stop
-}
-
-pub fn has_replies(mode: Mode) -> bool
-    ensures { result ≡ has_replies mode }
-{
-    match mode {
-        Mode::Load => true,
-        Mode::Store => false,
-        Mode::Mp(_) => true,
-        Mode::Sync(_) => false,
-    }
-}
-
 // The request that goes with one place of the program.
 fn request_at(channel: &Record, place: u8) -> Request
-    requires long { length channel.now.window ≡ 256 }
-    requires within { channel.now.program.first ≤ place }
+    requires { channel.now.program.first ≤ place }
     ensures { result ≡ request_at channel.now place }
 {
     let word = if channel.program.single {
@@ -74,30 +52,28 @@ fn request_at(channel: &Record, place: u8) -> Request
     }
 }
 
-// The channel's record after its piece was sent.
-pub fn served(channel: &mut Record, piece: PlaceRange)
+// Notes in the channel's record that its piece was sent. The piece is final if it holds the last place, or if a stop was accepted.
+pub fn served(channel: &mut Record, piece: PlaceRange) -> bool
     requires piece { span piece ≡ next_piece channel.old }
     requires few { channel.old.counts.sent < 256 }
-    ensures { channel.new ≡ served_record channel.old }
+    ensures last { result ≡ final channel.old }
+    ensures after { channel.new ≡ served_record channel.old }
 {
-    let ends = is_final(channel, piece) & !has_replies(channel.program.mode);
-    channel.flags.running = channel.flags.running & !ends;
-    channel.counts.sent += u16::from(piece.last().0 - piece.first().0) + 1;
+    let last = (piece.last().0 == channel.program.last) | channel.flags.stop;
+    let ends = last & !channel.program.mode.wants_reply();
+    channel.flags.running &= !ends;
+    channel.counts.sent += piece.len();
+    last
 }
 
 // Sends the requests of a piece one after another. There is room for their replies, so none is refused.
 pub fn send_piece<M: HallMemory>(memory: &mut M, channel: &Record, piece: PlaceRange)
-    requires sound { M.HallMemory.sound memory.old }
-    requires long { length channel.now.window ≡ 256 }
     requires within { channel.now.program.first ≤ (span piece).from }
-    requires room { length (M.HallMemory.view memory.old).transit + piece_length (span piece) ≤ 32 }
-    ensures sound { M.HallMemory.sound memory.new }
-    ensures sends { SentAll (requests_from channel.now (piece_length (span piece)) (span piece).from) (M.HallMemory.view memory.old) (M.HallMemory.view memory.new) }
+    requires room { length (M.HallMemory.view memory.old).transit + span_len (span piece) ≤ 32 }
+    ensures { SentAll (requests_from channel.now (span_len (span piece)) (span piece).from) (M.HallMemory.view memory.old) (M.HallMemory.view memory.new) }
 {
-    let first = piece.first().0 as usize;
-    let end = piece.last().0 as usize + 1;
-    for place in first..end {
-        match memory.send(request_at(channel, place as u8)) {
+    for place in piece.first().0..=piece.last().0 {
+        match memory.send(request_at(channel, place)) {
             Ok(()) => {}
             Err(_) => unreachable(),
         }

@@ -1,30 +1,9 @@
--- What a loop knows that compares each key with the one before.
-use Rattle.std.proofs.Common.{◌≡◌, ℕ, zero, suc, ◌+◌, ◌<◌, ◌≤◌, true, false, cond, ltb, List, [], ◌∷◌, length, get_or, drop, set, Some, None, Option, sym, refl, ap, ◌∙◌, add-one, arith, drop-cons}
-use Rattle.std.proofs.lemmas.List.{drop_all}
-use Rattle.std.proofs.lemmas.Bool.{cond-true, cond-false, cond_both, ltb-true}
+-- Lists whose keys rise: an element is changed for another of the same key, and the keys in order.
+use Rattle.std.proofs.Common.{◌≡◌, ℕ, zero, suc, ◌+◌, ◌<◌, cond, ltb, List, [], ◌∷◌, length, get_or, set, Some, None, Option, refl, ap, arith}
+use Rattle.std.proofs.lemmas.Bool.{cond_both, ltb-true}
 use Rattle.numbers.specs.Rising.{above, not_rising_from, not_rising}
 
 module _ {X : Type 0} (key : X → ℕ) where
-  -- the keys below the index i rise, and `before` is the last of them
-  abbrev pub RisesTo : List X → ℕ → Option ℕ → Type 0
-  RisesTo xs i before = not_rising key xs ≡ not_rising_from key i before (drop i xs)
-
-  -- at an index within, what is left begins with the element there, whose key is k
-  opened : (xs : List X) (i : ℕ) (before : Option ℕ) (x : X) (k : ℕ) → i < length xs → x ≡ get_or xs i x → k ≡ key x → RisesTo xs i before
-      → not_rising key xs ≡ cond (above before k) (not_rising_from key (i + 1) (Some k) (drop (i + 1) xs)) (Some i)
-  opened xs i before x k within read keyed rises =
-      rises ∙ ap (not_rising_from key i before) (drop-cons xs i x within ∙ ap (λ (y : X). y ∷ drop (suc i) xs) (sym read) ∙ ap (λ (n : ℕ). x ∷ drop n xs) (sym (add-one i)))
-      ∙ ap (λ (n : ℕ). cond (above before n) (not_rising_from key (i + 1) (Some n) (drop (i + 1) xs)) (Some i)) (sym keyed)
-
-  pub rises_more : (xs : List X) (i : ℕ) (before : Option ℕ) (x : X) (k : ℕ) → i < length xs → x ≡ get_or xs i x → k ≡ key x → RisesTo xs i before → true ≡ above before k → RisesTo xs (i + 1) (Some k)
-  rises_more xs i before x k within read keyed rises up = opened xs i before x k within read keyed rises ∙ cond-true _ _ _ (sym up)
-
-  pub rises_stop : (xs : List X) (i : ℕ) (before : Option ℕ) (x : X) (k : ℕ) → i < length xs → x ≡ get_or xs i x → k ≡ key x → RisesTo xs i before → false ≡ above before k → not_rising key xs ≡ Some i
-  rises_stop xs i before x k within read keyed rises down = opened xs i before x k within read keyed rises ∙ cond-false _ _ _ (sym down)
-
-  pub rises_all : (xs : List X) (i : ℕ) (before : Option ℕ) → length xs ≤ i → RisesTo xs i before → not_rising key xs ≡ None
-  rises_all xs i before end rises = rises ∙ ap (not_rising_from key i before) (drop_all i xs end)
-
   -- an element may be changed for another of the same key
   same_key_from : (n : ℕ) (before : Option ℕ) (xs : List X) (i : ℕ) (d y : X) → key y ≡ key (get_or xs i d) → not_rising_from key n before (set xs i y) ≡ not_rising_from key n before xs
   same_key_from n before [] i d y same = refl

@@ -1,19 +1,25 @@
 ghost use Rattle.std.specs.Prelude.{◌≡◌};
 ghost use Rattle.numbers.specs.Numbers.{channel_of};
 
-// A channel: one of the sixteen machines, 0 to 15.
-#[derive(Clone, Copy, PartialEq, Eq, Debug)]
+// A channel: one of the sixteen machines, 0 to 15. That bound is not in the type, since definitions make channels of plain numbers,
+// and each of them would have to carry its proof.
+#[derive(Clone, Copy, PartialEq, Eq, PartialOrd, Ord, Debug)]
 pub struct Channel(pub u8);
 
-impl Channel {
-    // The channel of this number, or none above 15.
-    pub fn checked(number: u32) -> Option<Channel>
-        ensures { result ≡ channel_of number }
-    {
+// No channel has this number: it is above 15.
+#[derive(Clone, Copy, PartialEq, Eq, Debug)]
+pub struct NoChannel;
+
+impl TryFrom<u32> for Channel {
+    type Error = NoChannel;
+
+    ghost try_from_gives = { λ number r. r ≡ channel_of number };
+
+    fn try_from(number: u32) -> Result<Channel, NoChannel> {
         if number <= 15 {
-            Some(Channel(number as u8))
+            Ok(Channel(number as u8))
         } else {
-            None
+            Err(NoChannel)
         }
     }
 }

@@ -12,6 +12,7 @@ pub enum Layer {
 }
 
 impl Layer {
+    // A text that stands by itself, where Display would need a writer.
     pub fn name(self) -> &'static str
         ensures { result.now ≡ layer_name self }
     {

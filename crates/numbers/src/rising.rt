@@ -18,24 +18,15 @@ impl Keyed for u8 {
     }
 }
 
-fn rises(before: Option<u32>, key: u32) -> bool
-    ensures { result ≡ above before key }
-{
-    match before {
-        None => true,
-        Some(before) => before < key,
-    }
-}
-
 // The first index, from 0, whose key is not above the one before, or none where the keys rise strictly.
 pub fn first_not_rising<T: Keyed>(items: &[T]) -> Option<usize>
     ensures value { result ≡ not_rising T.Keyed.rank items.now }
     ensures within { IfSome result (λ i. i < length items.now) }
 {
     let mut before = None;
-    for i in 0..items.len() {
-        let key = items[i].key();
-        if !rises(before, key) {
+    for (i, item) in items.iter().enumerate() {
+        let key = item.key();
+        if before.is_some_and(|before| key <= before) {
             return Some(i);
         }
         before = Some(key);

@@ -27,11 +27,15 @@ sent (action.Mp o w) = Some w
 sent (action.Sync o w) = Some w
 
 -- LOAD and MP want the word that the cell has just before
+abbrev pub mode_wants_reply : Mode → Bool
+mode_wants_reply mode.Load = true
+mode_wants_reply mode.Store = false
+mode_wants_reply (mode.Mp o) = true
+mode_wants_reply (mode.Sync o) = false
+
+-- an action wants a reply where its mode does
 abbrev pub wants_reply : Action → Bool
-wants_reply action.Load = true
-wants_reply (action.Store w) = false
-wants_reply (action.Mp o w) = true
-wants_reply (action.Sync o w) = false
+wants_reply a = mode_wants_reply (mode_of a)
 
 -- the word that a cell holds after an action, given the one it held before
 abbrev pub word_after : Action → ℕ → ℕ

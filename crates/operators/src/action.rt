@@ -44,9 +44,7 @@ impl Action {
     {
         match self {
             Action::Load => None,
-            Action::Store(word) => Some(word),
-            Action::Mp(_, word) => Some(word),
-            Action::Sync(_, word) => Some(word),
+            Action::Store(word) | Action::Mp(_, word) | Action::Sync(_, word) => Some(word),
         }
     }
 
@@ -54,12 +52,7 @@ impl Action {
     pub fn wants_reply(self) -> bool
         ensures { result ≡ wants_reply self }
     {
-        match self {
-            Action::Load => true,
-            Action::Store(_) => false,
-            Action::Mp(_, _) => true,
-            Action::Sync(_, _) => false,
-        }
+        self.mode().wants_reply()
     }
 
     // The word that a cell holds after the action, where it held this one before.
@@ -69,8 +62,9 @@ impl Action {
         match self {
             Action::Load => before,
             Action::Store(word) => word,
-            Action::Mp(operator, word) => operator.join(before, word),
-            Action::Sync(operator, word) => operator.join(before, word),
+            Action::Mp(operator, word) | Action::Sync(operator, word) => {
+                operator.join(before, word)
+            }
         }
     }
 }

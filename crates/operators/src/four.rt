@@ -6,6 +6,8 @@ ghost use Rattle.std.proofs.Common.{rules};
 
 use crate::operator::Operator;
 
+// Each operator is a type of its own, so that a later kind can build on the trait; `Choice` picks one of these four.
+
 // Bit by bit: a bit is set where both words have it.
 #[derive(Clone, Copy)]
 pub struct And;

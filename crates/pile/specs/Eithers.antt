@@ -6,7 +6,3 @@ use Rattle.pile.specs.declared.either.Either.TheVariants.{First, Second}
 abbrev pub view_of : {L R : Type 0} → (L → View) → (R → View) → Either L R → View
 view_of left right (First m) = left m
 view_of left right (Second m) = right m
-
-abbrev pub SoundOf : {L R : Type 0} → (L → Type 0) → (R → Type 0) → Either L R → Type 0
-SoundOf left right (First m) = left m
-SoundOf left right (Second m) = right m

@@ -1,11 +1,11 @@
-ghost use Rattle.pile.specs.Eithers.{view_of, SoundOf};
+ghost use Rattle.pile.specs.Eithers.{view_of};
 ghost use Rattle.std.proofs.Common.{rules};
 
 use memory::fault::MemoryFault;
 use memory::interface::HallMemory;
 use memory::request::{Request, Taken};
 
-// One of two kinds of hall memory.
+// One of two kinds of hall memory. The library's type of this shape could not be made a hall memory here, as neither is of this crate.
 #[derive(Drop)]
 pub enum Either<L, R> {
     First(L),
@@ -14,8 +14,6 @@ pub enum Either<L, R> {
 
 impl<L: HallMemory, R: HallMemory> HallMemory for Either<L, R> {
     ghost view = { view_of L.HallMemory.view R.HallMemory.view };
-
-    ghost sound = { SoundOf L.HallMemory.sound R.HallMemory.sound };
 
     ghost bounded = { Prim.search rules };
 

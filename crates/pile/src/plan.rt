@@ -1,4 +1,3 @@
-ghost use Rattle.pile.specs.Piles.{base_view, BaseSound, shared_view, SharedSound, pile_view, PileSound, Made};
 ghost use Rattle.pile.specs.Plans.{base_planned, shared_planned, pile_planned, AsPlanned};
 
 use crate::either::Either;
@@ -6,6 +5,7 @@ use crate::making::{catalogue, flat, route, spread};
 use crate::piles::{Base, Pile, Shared};
 use memory::catalogue::Entry;
 use memory::fault::MemoryFault;
+use memory::interface::HallMemory;
 
 // What a pile is to be made of. Inner memories are made before outer ones and the left one before the right one, so the first
 // refusal in this order is the answer.
@@ -32,8 +32,7 @@ pub enum PilePlan {
 
 impl BasePlan {
     fn make(self) -> Result<Base, MemoryFault>
-        ensures made { Made BaseSound result }
-        ensures planned { AsPlanned base_view (base_planned self) result }
+        ensures { AsPlanned ⟦<Base as HallMemory>⟧.view (base_planned self) result }
     {
         match self {
             BasePlan::Flat(words) => flat(words),
@@ -44,8 +43,7 @@ impl BasePlan {
 
 impl SharedPlan {
     fn make(self) -> Result<Shared, MemoryFault>
-        ensures made { Made SharedSound result }
-        ensures planned { AsPlanned shared_view (shared_planned self) result }
+        ensures { AsPlanned ⟦<Shared as HallMemory>⟧.view (shared_planned self) result }
     {
         match self {
             SharedPlan::One(base) => Ok(Either::First(base.make()?)),
@@ -60,8 +58,7 @@ impl SharedPlan {
 
 impl PilePlan {
     pub fn make(self) -> Result<Pile, MemoryFault>
-        ensures made { Made PileSound result }
-        ensures planned { AsPlanned pile_view (pile_planned self) result }
+        ensures { AsPlanned ⟦<Pile as HallMemory>⟧.view (pile_planned self) result }
     {
         match self {
             PilePlan::Plain(shared) => Ok(Either::First(shared.make()?)),

@@ -13,6 +13,10 @@ from_to a b = record { from = a; to = b }
 abbrev pub span : PlaceRange → Span
 span r = from_to r.first.0 r.last.0
 
+-- how many places there are from one number to another
+abbrev pub span_len : Span → ℕ
+span_len s = s.to + 1 - s.from
+
 -- the first place at or after a that lies one below a multiple of eight
 abbrev pub boundary : ℕ → ℕ
 boundary a = a / 8 * 8 + 7
@@ -46,7 +50,7 @@ count_up (suc n) a = a ∷ count_up n (a + 1)
 
 -- the places of a span, in order
 abbrev pub places_of : Span → List ℕ
-places_of s = count_up (s.to + 1 - s.from) s.from
+places_of s = count_up (span_len s) s.from
 
 -- the places of several spans, one after another
 abbrev pub all_places : List Span → List ℕ

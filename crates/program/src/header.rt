@@ -16,6 +16,7 @@ pub struct Header {
     pub single: bool,
 }
 
+// Two bits of a word have no fifth value: a TryFrom would add a refusal that nothing meets.
 fn operator_of(number: u32) -> Choice
     ensures { result ≡ operator_of number }
 {
@@ -38,6 +39,7 @@ fn mode_of(number: u32, operator: u32) -> Mode
     }
 }
 
+// A mode has two numbers, and a From would not say which of them it gives.
 fn mode_number(mode: Mode) -> u32
     ensures { result ≡ mode_number mode }
 {

@@ -20,7 +20,7 @@ pub struct Words {
 fn read_single(header: Header, words: Words) -> Result<Program, ProgramFault>
     ensures { result ≡ read_single header words }
 {
-    if header.first.0 != header.last.0 {
+    if header.first != header.last {
         return Err(ProgramFault::SeveralPlaces);
     }
     let action = Action::new(header.mode, words.third);
@@ -54,9 +54,7 @@ impl Program {
         ensures back { (p : Program) → result ≡ Ok p → write_program p ≡ words }
     {
         let header = Header::read(words.first)?;
-        let Some(range) = PlaceRange::checked(header.first, header.last) else {
-            return Err(ProgramFault::Backward);
-        };
+        let range = PlaceRange::checked(header.first, header.last).ok_or(ProgramFault::Backward)?;
         if header.single {
             read_single(header, words)
         } else {

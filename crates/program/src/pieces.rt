@@ -20,14 +20,10 @@ impl Iterator for Pieces {
     ghost remaining = { λ pieces. at_most (length (pieces_left pieces.rest)) };
 
     fn next(&mut self) -> Option<PlaceRange> {
-        match self.rest {
-            None => None,
-            Some(range) => {
-                let cut = range.cut();
-                self.rest = cut.rest;
-                Some(cut.piece)
-            }
-        }
+        let range = self.rest?;
+        let cut = range.cut();
+        self.rest = cut.rest;
+        Some(cut.piece)
     }
 }
 

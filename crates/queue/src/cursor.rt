@@ -3,6 +3,7 @@ ghost use Rattle.queue.specs.Slots.{slot_of, found, free_slot, grown, used_slot,
 
 // Which slots of a line are in use: `len` of them from the slot `head` on, where slot 0 follows the last slot.
 // It knows no element type, so that every kind of line can share it. The line passes the number of its slots, `size`.
+// As a ghost field, the fact that the head is within would be a proof inside each cursor that a definition writes.
 #[derive(Clone, Copy)]
 pub struct Cursor {
     head: usize,

@@ -2,4 +2,5 @@
 #![tactic(auto)]
 
 mod cursor;
+pub mod full;
 pub mod line;

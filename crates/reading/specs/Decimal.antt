@@ -6,10 +6,6 @@ use Rattle.reading.specs.Fields.{first_field}
 abbrev pub is_digit : ℕ → Bool
 is_digit b = nat_le 48 b && nat_le b 57
 
--- what a byte is as a digit
-abbrev pub digit_of : ℕ → Option ℕ
-digit_of b = cond (is_digit b) (Some (b - 48)) None
-
 abbrev pub all_digits : List ℕ → Bool
 all_digits [] = true
 all_digits (b ∷ bs) = is_digit b && all_digits bs
@@ -18,6 +14,10 @@ all_digits (b ∷ bs) = is_digit b && all_digits bs
 abbrev pub value_after : ℕ → List ℕ → ℕ
 value_after v [] = v
 value_after v (b ∷ bs) = value_after (v * 10 + (b - 48)) bs
+
+-- a value with one more digit behind it, or none where the byte is no digit or the value does not fit 32 bits
+abbrev pub with_digit : ℕ → ℕ → Option ℕ
+with_digit v b = cond (is_digit b && nat_lt (v * 10 + (b - 48)) (2 ^ 32)) (Some (v * 10 + (b - 48))) None
 
 -- this value, or none where some byte is no digit or the value does not fit 32 bits
 abbrev pub number_after : ℕ → List ℕ → Option ℕ

@@ -1,5 +1,5 @@
 -- How the bytes of a line are cut into fields: a field is a run of bytes without a space, as long as can be.
-use Rattle.std.specs.Prelude.{ℕ, Bool, true, cond, List, [], ◌∷◌, Some, None, Option, ◌==◌}
+use Rattle.std.specs.Prelude.{◌≡◌, ℕ, Bool, true, cond, List, [], ◌∷◌, Some, None, Option, ◌==◌}
 
 -- a space is the byte 32
 abbrev pub is_space : ℕ → Bool
@@ -32,6 +32,10 @@ first_field bs = as_field (before_space (after_spaces bs))
 -- what is left after the first field
 abbrev pub after_field : List ℕ → List ℕ
 after_field bs = from_space (after_spaces bs)
+
+-- what is given and left, where these bytes were left before: the first field, or none where there are only spaces
+abbrev pub GivesField : List ℕ → Option (List ℕ) → List ℕ → Type 0
+GivesField before field after = (field ≡ first_field before) × (after ≡ after_field before)
 
 -- no mark at all, or # (35) for the first
 abbrev pub empty_or_comment : List ℕ → Bool

@@ -11,6 +11,7 @@ const LONGEST: usize = 2_097_152;
 #[derive(Drop)]
 pub struct Line {
     bytes: Vec<u8>,
+    // Beside the bytes, and no Option of them, since the memory of a line that was too long serves the next one.
     too_long: bool,
     ghost stored: { vec_len bytes ≤ 2097152 },
 }

@@ -3,7 +3,7 @@ ghost use Rattle.reading.specs.Names.{Names, operator_name};
 
 use operators::choice::Choice;
 
-// The operator of this name, or none.
+// The operator of this name, or none. The type is of another crate, which has no texts, so this is no TryFrom.
 pub fn operator(name: &[u8]) -> Option<Choice>
     ensures { Names name.now result }
 {
@@ -16,6 +16,7 @@ pub fn operator(name: &[u8]) -> Option<Choice>
     }
 }
 
+// A text that stands by itself, where Display would need a writer.
 pub fn name(operator: Choice) -> &'static str
     ensures { result.now ≡ operator_name operator }
 {

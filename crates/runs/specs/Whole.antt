@@ -3,16 +3,14 @@ use Rattle.std.specs.Prelude.{◌≡◌, min, List, length, take, Err}
 use Rattle.memory.specs.declared.interface.HallMemory.{Ghosts}
 use Rattle.machine.specs.declared.answer.Answer.{Answer}
 use Rattle.mover.specs.Making.{mover_check}
-use Rattle.mover.specs.Meaning.{mean, hall_view, MoverSound}
-use Rattle.mover.specs.declared.mover.Mover.{Mover}
+use Rattle.mover.specs.Meaning.{Whole}
 use Rattle.runs.specs.Asked.{Ran}
 use Rattle.runs.specs.declared.call.Call.{Call}
 use Rattle.runs.specs.declared.run.Returned.{Returned}
 
 -- the law of exactly the calls that were asked and the answers that were told
-pub record RanWhole {M : Type 0} (hall : Ghosts M) (memory : M) (calls : List Call) (answers : List Answer) (s : Mover M) : Type 0 where
-  pub sound : MoverSound hall s
-  pub ran : Ran (hall.view memory) (take (min (length calls) (length answers)) calls) (take (min (length calls) (length answers)) answers) (mean s) (hall_view hall s)
+pub record RanWhole {M : Type 0} (hall : Ghosts M) (memory : M) (calls : List Call) (answers : List Answer) (s : Whole M) : Type 0 where
+  pub ran : Ran (hall.view memory) (take (min (length calls) (length answers)) calls) (take (min (length calls) (length answers)) answers) s.state (hall.view s.memory)
 
 -- the refusal, the memory as it was, and no answer written
 pub record GaveBack {M : Type 0} (hall : Ghosts M) (memory : M) (before after : List Answer) (r : Returned M) : Type 0 where

@@ -1,7 +1,5 @@
 ghost use Rattle.std.specs.Prelude.{◌≡◌, min, length, MatchResult};
-ghost use Rattle.machine.specs.Laws.{Keeps};
-ghost use Rattle.machine.specs.Steps.{done_or, given_or, word_or};
-ghost use Rattle.mover.specs.Meaning.{mean, hall_view, MoverSound};
+ghost use Rattle.mover.specs.Meaning.{Moves};
 ghost use Rattle.runs.specs.Asked.{call_of, GoesOn};
 ghost use Rattle.runs.specs.Whole.{RanWhole, GaveBack};
 
@@ -13,46 +11,27 @@ use memory::interface::HallMemory;
 use mover::mover::Mover;
 use numbers::channel::Channel;
 
-fn done(answer: Result<(), ChannelFault>) -> Answer
-    ensures { result ≡ done_or answer }
-{
-    match answer {
-        Ok(()) => Answer::Done,
-        Err(fault) => Answer::Refused(fault),
-    }
-}
-
-fn word(answer: Result<u32, ChannelFault>) -> Answer
-    ensures { result ≡ word_or answer }
-{
-    match answer {
-        Ok(word) => Answer::Word(word),
-        Err(fault) => Answer::Refused(fault),
-    }
-}
-
-fn given(answer: Result<Channel, ChannelFault>) -> Answer
-    ensures { result ≡ given_or answer }
-{
-    match answer {
-        Ok(channel) => Answer::Given(channel),
-        Err(fault) => Answer::Refused(fault),
-    }
-}
-
 // Carries out one call, whichever it is.
 pub fn carry_out<M: HallMemory>(mover: &mut Mover<M>, call: Call<'_>) -> Answer
-    requires { MoverSound M.HallMemory mover.old }
-    ensures sound { MoverSound M.HallMemory mover.new }
-    ensures keeps { Keeps (call_of call.entry) result (mean mover.old) (hall_view M.HallMemory mover.old) (mean mover.new) (hall_view M.HallMemory mover.new) }
+    ensures { Moves M.HallMemory (call_of call.entry) result mover.old mover.new }
 {
     match call {
-        Call::Reserve => given(mover.reserve()),
-        Call::Release(channel) => done(mover.release(channel)),
-        Call::Put(channel, place, word) => done(mover.put(channel, place, word)),
-        Call::Fill(channel, bytes) => done(mover.fill(channel, bytes)),
-        Call::Start(channel, words) => done(mover.start(channel, words)),
-        Call::Stop(channel) => done(mover.stop(channel)),
+        Call::Reserve => mover.reserve().map_or_else(Answer::Refused, Answer::Given),
+        Call::Release(channel) => mover
+            .release(channel)
+            .map_or_else(Answer::Refused, |()| Answer::Done),
+        Call::Put(channel, place, word) => mover
+            .put(channel, place, word)
+            .map_or_else(Answer::Refused, |()| Answer::Done),
+        Call::Fill(channel, bytes) => mover
+            .fill(channel, bytes)
+            .map_or_else(Answer::Refused, |()| Answer::Done),
+        Call::Start(channel, words) => mover
+            .start(channel, words)
+            .map_or_else(Answer::Refused, |()| Answer::Done),
+        Call::Stop(channel) => mover
+            .stop(channel)
+            .map_or_else(Answer::Refused, |()| Answer::Done),
         Call::Quiet => {
             mover.quiet();
             Answer::Done
@@ -61,21 +40,24 @@ pub fn carry_out<M: HallMemory>(mover: &mut Mover<M>, call: Call<'_>) -> Answer
             mover.wake();
             Answer::Done
         }
-        Call::Look(channel, place) => word(mover.look(channel, place)),
-        Call::Status(channel) => word(mover.status(channel)),
+        Call::Look(channel, place) => mover
+            .look(channel, place)
+            .map_or_else(Answer::Refused, Answer::Word),
+        Call::Status(channel) => mover
+            .status(channel)
+            .map_or_else(Answer::Refused, Answer::Word),
         Call::Turn => Answer::Turned(mover.turn()),
     }
 }
 
-// Carries out as many of the calls as there are places for their answers, in order.
+// Carries out as many of the calls as there are places for their answers, in order. The places are the caller's, so that no call
+// fails for want of memory. They are found by the index of the call, as the clause counts both from the first.
 pub fn carry_all<M: HallMemory>(mover: &mut Mover<M>, calls: &[Call<'_>], answers: &mut [Answer])
-    requires { MoverSound M.HallMemory mover.old }
-    ensures sound { MoverSound M.HallMemory mover.new }
-    ensures goes_on { GoesOn calls.now answers.new (min (length calls.now) (length answers.old)) (mean mover.old) (hall_view M.HallMemory mover.old) (mean mover.new) (hall_view M.HallMemory mover.new) }
+    ensures { GoesOn calls.now answers.new (min (length calls.now) (length answers.old)) mover.old.state (M.HallMemory.view mover.old.memory) mover.new.state (M.HallMemory.view mover.new.memory) }
 {
     let count = calls.len().min(answers.len());
-    for i in 0..count {
-        answers[i] = carry_out(mover, calls[i]);
+    for (i, call) in calls[..count].iter().enumerate() {
+        answers[i] = carry_out(mover, *call);
     }
 }
 
@@ -92,7 +74,6 @@ pub fn run<M: HallMemory>(
     calls: &[Call<'_>],
     answers: &mut [Answer],
 ) -> Result<Mover<M>, Returned<M>>
-    requires { M.HallMemory.sound memory }
     ensures { MatchResult result (RanWhole M.HallMemory memory calls.now answers.new) (GaveBack M.HallMemory memory answers.old answers.new) }
 {
     match Mover::check(&memory) {

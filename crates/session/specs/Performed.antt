@@ -2,7 +2,6 @@
 use Rattle.std.specs.Prelude.{◌≡◌, ℕ, ◌+◌, ◌≤◌, true, cond, ◌⊎◌, List, is_ok, Some, Ok, Err, Result}
 use Rattle.memory.specs.declared.interface.HallMemory.{Ghosts}
 use Rattle.machine.specs.Steps.{Call}
-use Rattle.pile.specs.Piles.{Pile}
 use Rattle.reading.specs.Fields.{passed_over}
 use Rattle.commands.specs.Commands.{spelled, meaning}
 use Rattle.commands.specs.Troubles.{Refuses}
@@ -14,7 +13,6 @@ use Rattle.commands.specs.declared.trouble.Trouble.{Trouble}
 use Rattle.commands.specs.declared.trouble.Trouble.TheVariants.{BadLine}
 use Rattle.answers.specs.declared.reply.Reply.{Reply}
 use Rattle.dispatch.specs.Carried.{Outcome, CarriesOut, Calls, asked_by}
-use Rattle.dispatch.specs.Halls.{pile_hall}
 use Rattle.dispatch.specs.declared.hall.Hall.{Hall}
 
 -- whether the answers were written
@@ -58,33 +56,33 @@ Tells (Ok a) t = t ≡ Err BadLine → ⊥
 Tells (Err e) t = t ≡ Err e
 
 -- the command is carried out once, and its outcome is told
-pub record Answered (c : Command) (t : Told) (before after : Hall Pile) : Type 0 where
+pub record Answered {M : Type 0} (hall : Ghosts M) (c : Command) (t : Told) (before after : Hall M) : Type 0 where
   pub outcome : Outcome
-  pub carried : CarriesOut c outcome before after
+  pub carried : CarriesOut hall c outcome before after
   pub tells : Tells outcome t
 
 -- a command of a mover makes its calls; any other is carried out once
-abbrev pub Performs : Command → Told → Hall Pile → Hall Pile → Type 0
-Performs (command.Programs p) t before after = Answered (command.Programs p) t before after
-Performs (command.MakeMemory plan) t before after = Answered (command.MakeMemory plan) t before after
-Performs (command.Memory m) t before after = Answered (command.Memory m) t before after
-Performs command.MakeMover t before after = Answered command.MakeMover t before after
-Performs (command.Mover c) t before after = Repeats pile_hall (asked_by c) (times_of c) t before after
+abbrev pub Performs : {M : Type 0} → Ghosts M → Command → Told → Hall M → Hall M → Type 0
+Performs hall (command.Programs p) t before after = Answered hall (command.Programs p) t before after
+Performs hall (command.MakeMemory plan) t before after = Answered hall (command.MakeMemory plan) t before after
+Performs hall (command.Memory m) t before after = Answered hall (command.Memory m) t before after
+Performs hall command.MakeMover t before after = Answered hall command.MakeMover t before after
+Performs hall (command.Mover c) t before after = Repeats hall (asked_by c) (times_of c) t before after
 
 -- the line spells nothing, or there was no memory to read it: the trouble is told, and nothing changes
-pub record Unread (line : List ℕ) (t : Told) (before after : Hall Pile) : Type 0 where
+pub record Unread {M : Type 0} (line : List ℕ) (t : Told) (before after : Hall M) : Type 0 where
   pub trouble : Trouble
   pub refuses : Refuses (spelled line) trouble
   pub told : t ≡ Err trouble
   pub same : after ≡ before
 
 -- the line spells a command, which is carried out
-pub record Read (line : List ℕ) (t : Told) (before after : Hall Pile) : Type 0 where
+pub record Read {M : Type 0} (hall : Ghosts M) (line : List ℕ) (t : Told) (before after : Hall M) : Type 0 where
   pub command : Command
   pub spells : spelled line ≡ Some (meaning command)
-  pub performs : Performs command t before after
+  pub performs : Performs hall command t before after
 
 -- a line that is passed over changes nothing; of any other, the command that it spells is carried out
-abbrev pub Answers : List ℕ → Told → Hall Pile → Hall Pile → Type 0
-Answers line t before after =
-    cond (passed_over line) ((t ≡ Ok tt) × (after ≡ before)) (Unread line t before after ⊎ Read line t before after)
+abbrev pub Answers : {M : Type 0} → Ghosts M → List ℕ → Told → Hall M → Hall M → Type 0
+Answers hall line t before after =
+    cond (passed_over line) ((t ≡ Ok tt) × (after ≡ before)) (Unread line t before after ⊎ Read hall line t before after)

@@ -1,6 +1,7 @@
 -- What becomes of a script as its bytes come in: each line that ends is answered, and the next one begins.
 use Rattle.std.specs.Prelude.{◌≡◌, ℕ, ◌+◌, ◌-◌, ◌^◌, ◌<◌, Bool, true, false, cond, ◌||◌, List, [], ◌⊎◌, length, min, is_ok, Some, None, Ok, Err, Option, Result, ◌==◌, vec_items, slice_index}
 use Rattle.std.specs.declared.io.Error.{Error}
+use Rattle.memory.specs.declared.interface.HallMemory.{Ghosts}
 use Rattle.pile.specs.Piles.{Pile}
 use Rattle.reading.specs.Lines.{with_byte, marked_after, whole_line}
 use Rattle.commands.specs.declared.trouble.Trouble.TheVariants.{BadLine, Stopped}
@@ -36,9 +37,9 @@ abbrev pub opening : Stand
 opening = record { hall = Empty; bytes = []; mark = false; lines = 0; bad = false }
 
 -- a whole line is answered; one that was too long is a bad line, which changes nothing
-abbrev pub AnswersLine : Option (List ℕ) → Told → Hall Pile → Hall Pile → Type 0
-AnswersLine None t before after = (t ≡ Err BadLine) × (after ≡ before)
-AnswersLine (Some line) t before after = Answers line t before after
+abbrev pub AnswersLine : Ghosts Pile → Option (List ℕ) → Told → Hall Pile → Hall Pile → Type 0
+AnswersLine hall None t before after = (t ≡ Err BadLine) × (after ≡ before)
+AnswersLine hall (Some line) t before after = Answers hall line t before after
 
 -- the line was bad
 abbrev pub is_bad : Told → Bool
@@ -53,9 +54,9 @@ PassedOn (Err BadLine) r = Unit {0}
 PassedOn (Err (Stopped e)) r = r ≡ Err e
 
 -- a line has ended: it is answered and counted, a bad one is noted, and the next line begins
-pub record Ended (r : Went) (before after : Stand) : Type 0 where
+pub record Ended (hall : Ghosts Pile) (r : Went) (before after : Stand) : Type 0 where
   pub told : Told
-  pub answers : AnswersLine (whole_line before.bytes before.mark) told before.hall after.hall
+  pub answers : AnswersLine hall (whole_line before.bytes before.mark) told before.hall after.hall
   pub passed_on : PassedOn told r
   pub bytes : after.bytes ≡ []
   pub mark : after.mark ≡ false
@@ -73,30 +74,30 @@ with_next s byte = record {
 }
 
 -- one byte: a line feed ends the line, and any other byte goes into it
-abbrev pub Comes : ℕ → Went → Stand → Stand → Type 0
-Comes byte r before after = cond (byte == 10) (Ended r before after) (after ≡ with_next before byte)
+abbrev pub Comes : Ghosts Pile → ℕ → Went → Stand → Stand → Type 0
+Comes hall byte r before after = cond (byte == 10) (Ended hall r before after) (after ≡ with_next before byte)
 
 -- so many bytes of a chunk came, one after another, and nothing stopped them
-pub data Came (chunk : List ℕ) (before : Stand) : ℕ → Stand → Type 0 where
-  none_came : Came chunk before 0 before
-  one_more_came : {n : ℕ} {between after : Stand} → Came chunk before n between → Comes (slice_index chunk n) (Ok tt) between after → Came chunk before (n + 1) after
+pub data Came (hall : Ghosts Pile) (chunk : List ℕ) (before : Stand) : ℕ → Stand → Type 0 where
+  none_came : Came hall chunk before 0 before
+  one_more_came : {n : ℕ} {between after : Stand} → Came hall chunk before n between → Comes hall (slice_index chunk n) (Ok tt) between after → Came hall chunk before (n + 1) after
 
 -- a byte that stopped the script: its line could not be answered, or there was no memory to store it
-abbrev pub StopsAt : ℕ → Went → Stand → Stand → Type 0
-StopsAt byte r before after = cond (byte == 10) (Ended r before after) (after ≡ before)
+abbrev pub StopsAt : Ghosts Pile → ℕ → Went → Stand → Stand → Type 0
+StopsAt hall byte r before after = cond (byte == 10) (Ended hall r before after) (after ≡ before)
 
 -- a chunk has come: all of it, or as far as a byte that stopped the script
-pub record Taken (chunk : List ℕ) (r : Went) (before after : Stand) : Type 0 where
+pub record Taken (hall : Ghosts Pile) (chunk : List ℕ) (r : Went) (before after : Stand) : Type 0 where
   pub times : ℕ
   pub between : Stand
-  pub came : Came chunk before times between
-  pub ends : ((times ≡ length chunk) × (after ≡ between)) ⊎ ((times < length chunk) × (is_ok r ≡ false) × StopsAt (slice_index chunk times) r between after)
+  pub came : Came hall chunk before times between
+  pub ends : ((times ≡ length chunk) × (after ≡ between)) ⊎ ((times < length chunk) × (is_ok r ≡ false) × StopsAt hall (slice_index chunk times) r between after)
 
 -- a last line that no line feed ended is answered too
-abbrev pub LastLine : Went → Stand → Stand → Type 0
-LastLine r before after = cond (length before.bytes == 0) (after ≡ before) ((q : Went) × Ended q before after × (is_ok r ≡ true → q ≡ Ok tt))
+abbrev pub LastLine : Ghosts Pile → Went → Stand → Stand → Type 0
+LastLine hall r before after = cond (length before.bytes == 0) (after ≡ before) ((q : Went) × Ended hall q before after × (is_ok r ≡ true → q ≡ Ok tt))
 
 -- the script has ended: it went well only if no line was bad
-pub record Finished (r : Went) (before after : Stand) : Type 0 where
-  pub last : LastLine r before after
+pub record Finished (hall : Ghosts Pile) (r : Went) (before after : Stand) : Type 0 where
+  pub last : LastLine hall r before after
   pub well : is_ok r ≡ true → after.bad ≡ false

@@ -1,7 +1,7 @@
 ghost use Rattle.std.specs.Prelude.{◌≡◌, Option};
 ghost use Rattle.std.specs.Option.{option_map};
-ghost use Rattle.dispatch.specs.Halls.{HallSound};
 ghost use Rattle.session.specs.Scripts.{AnswersLine, Ended, Finished, Taken, opening, stand};
+ghost use Rattle.pile.specs.Piles.{pile_hall};
 
 use crate::session::Session;
 use commands::trouble::Trouble;
@@ -25,8 +25,7 @@ pub struct Script {
 
 impl Script {
     pub fn new(heap: Global) -> Script
-        ensures sound { HallSound result.session.hall }
-        ensures opens { stand result ≡ opening }
+        ensures { stand result ≡ opening }
     {
         Script {
             session: Session::new(heap),
@@ -39,9 +38,7 @@ impl Script {
     // Answers the lines that end in this chunk, and keeps what follows them. The answers are flushed, since the next chunk
     // may wait for them.
     pub fn take<W: Write>(&mut self, chunk: &[u8], out: &mut W) -> io::Result<()>
-        requires { HallSound self.old.session.hall }
-        ensures sound { HallSound self.new.session.hall }
-        ensures takes { Taken chunk.now result (stand self.old) (stand self.new) }
+        ensures { Taken pile_hall chunk.now result (stand self.old) (stand self.new) }
     {
         for byte in chunk {
             if *byte == LINE_FEED {
@@ -55,9 +52,7 @@ impl Script {
 
     // Answers a last line that has no line feed. The result is an error where some line was a bad line.
     pub fn end<W: Write>(&mut self, out: &mut W) -> io::Result<()>
-        requires { HallSound self.old.session.hall }
-        ensures sound { HallSound self.new.session.hall }
-        ensures ends { Finished result (stand self.old) (stand self.new) }
+        ensures { Finished pile_hall result (stand self.old) (stand self.new) }
     {
         if !self.line.is_empty() {
             self.end_line(out)?;
@@ -71,9 +66,7 @@ impl Script {
 
     // The line that has come ends. A bad one is told by its number.
     fn end_line<W: Write>(&mut self, out: &mut W) -> io::Result<()>
-        requires { HallSound self.old.session.hall }
-        ensures sound { HallSound self.new.session.hall }
-        ensures ended { Ended result (stand self.old) (stand self.new) }
+        ensures { Ended pile_hall result (stand self.old) (stand self.new) }
     {
         self.lines = self.lines.saturating_add(1);
         let answered = answer(&mut self.session, self.line.bytes(), out);
@@ -91,12 +84,7 @@ impl Script {
 
 // Answers a line that has ended. One that was too long to be stored is a bad line.
 fn answer<W: Write>(session: &mut Session, line: Option<&[u8]>, out: &mut W) -> Result<(), Trouble>
-    requires { HallSound session.old.hall }
-    ensures sound { HallSound session.new.hall }
-    ensures answers { AnswersLine (option_map (λ x. x.now) line.entry) result session.old.hall session.new.hall }
+    ensures { AnswersLine pile_hall (option_map (λ x. x.now) line.entry) result session.old.hall session.new.hall }
 {
-    match line {
-        Some(bytes) => session.answer(bytes, out),
-        None => Err(Trouble::BadLine),
-    }
+    session.answer(line.ok_or(Trouble::BadLine)?, out)
 }

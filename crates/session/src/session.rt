@@ -1,7 +1,7 @@
 ghost use Rattle.std.specs.Prelude.{◌≡◌};
-ghost use Rattle.dispatch.specs.Halls.{HallSound};
 ghost use Rattle.session.specs.Performed.{Answers, Spares};
 ghost use Rattle.dispatch.specs.declared.hall.Hall.TheVariants.{Empty};
+ghost use Rattle.pile.specs.Piles.{pile_hall};
 
 use crate::written::perform;
 use commands::command::Command;
@@ -21,8 +21,7 @@ pub struct Session {
 
 impl Session {
     pub fn new(heap: Global) -> Session
-        ensures sound { HallSound result.hall }
-        ensures empty { result.hall ≡ Empty }
+        ensures { result.hall ≡ Empty }
     {
         Session {
             heap,
@@ -32,9 +31,7 @@ impl Session {
 
     // Carries out one line and writes its answer. A line that is passed over has none, and a bad line changes nothing.
     pub fn answer<W: Write>(&mut self, line: &[u8], out: &mut W) -> Result<(), Trouble>
-        requires { HallSound self.old.hall }
-        ensures sound { HallSound self.new.hall }
-        ensures answers { Answers line.now result self.old.hall self.new.hall }
+        ensures answers { Answers pile_hall line.now result self.old.hall self.new.hall }
         ensures spares { Spares result self.old.hall self.new.hall }
     {
         if passed_over(line) {

@@ -2,8 +2,8 @@
 ghost use Rattle.std.specs.Prelude.{◌≡◌, Err, ◌≢◌};
 ghost use Rattle.commands.specs.declared.trouble.Trouble.TheVariants.{BadLine};
 ghost use Rattle.runs.specs.Asked.{call_of};
-ghost use Rattle.dispatch.specs.Halls.{SoundOver, HallSound};
 ghost use Rattle.session.specs.Performed.{Repeats, times_of, Performs, Spares};
+ghost use Rattle.pile.specs.Piles.{pile_hall};
 
 use answers::reply::Reply;
 use commands::command::Command;
@@ -20,10 +20,7 @@ use std::io::Write;
 pub fn write_reply<W: Write>(reply: Reply, out: &mut W) -> Result<(), Trouble>
     ensures { result ≢ Err BadLine }
 {
-    match writeln!(out, "{reply}") {
-        Ok(()) => Ok(()),
-        Err(error) => Err(Trouble::Stopped(error)),
-    }
+    writeln!(out, "{reply}").map_err(Trouble::Stopped)
 }
 
 // How many calls a command makes.
@@ -43,9 +40,7 @@ pub fn repeat<M: HallMemory + Drop, W: Write>(
     count: u32,
     out: &mut W,
 ) -> Result<(), Trouble>
-    requires { SoundOver M.HallMemory hall.old }
-    ensures sound { SoundOver M.HallMemory hall.new }
-    ensures repeats { Repeats M.HallMemory (call_of call.entry) count result hall.old hall.new }
+    ensures { Repeats M.HallMemory (call_of call.entry) count result hall.old hall.new }
 {
     for done in 0..count {
         let reply = hall.call(call)?;
@@ -60,16 +55,11 @@ pub fn perform<W: Write>(
     command: Command,
     out: &mut W,
 ) -> Result<(), Trouble>
-    requires { HallSound hall.old }
-    ensures sound { HallSound hall.new }
-    ensures performs { Performs command result hall.old hall.new }
+    ensures performs { Performs pile_hall command result hall.old hall.new }
     ensures spares { Spares result hall.old hall.new }
 {
     match command {
         Command::Mover(command) => repeat(hall, call_of(&command), times(&command), out),
-        other => match hall.carry_out(other) {
-            Ok(reply) => write_reply(reply, out),
-            Err(trouble) => Err(trouble),
-        },
+        other => write_reply(hall.carry_out(other)?, out),
     }
 }

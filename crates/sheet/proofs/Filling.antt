@@ -14,12 +14,10 @@ pub filled_none : (bytes : List ℕ) (window : List (Option ℕ)) → window ≡
 unfolding filled_to
 filled_none bytes window = refl
 
-pub filled_more : (i : ℕ) (bytes : List ℕ) (before window : List (Option ℕ)) (w : ℕ) → window ≡ filled_to i bytes before → w ≡ word_at bytes i
-    → set window (place_at bytes i) (Some w) ≡ filled_to (i + 1) bytes before
+pub filled_more : (i : ℕ) (bytes : List ℕ) (before window : List (Option ℕ)) (p w : ℕ) → window ≡ filled_to i bytes before → p ≡ place_at bytes i → w ≡ word_at bytes i
+    → set window p (Some w) ≡ filled_to (i + 1) bytes before
 unfolding filled_to
-filled_more i bytes before window w e f =
-    ap (λ (l : List (Option ℕ)). set l (place_at bytes i) (Some w)) e ∙ ap (λ (x : ℕ). set (filled_to i bytes before) (place_at bytes i) (Some x)) f
-    ∙ ap (λ (n : ℕ). filled_to n bytes before) (sym (add-one i))
+filled_more i bytes before window p w e at f = rw (e, at, f, add-one i) refl
 
 length_filled : (k : ℕ) (bytes : List ℕ) (window : List (Option ℕ)) → length (filled_to k bytes window) ≡ length window
 unfolding filled_to
@@ -27,7 +25,7 @@ length_filled zero bytes window = refl
 length_filled (suc k) bytes window = length-set _ _ _ ∙ length_filled k bytes window
 
 -- what the check tells: the bytes are all there, and the places rise
-length_good : (bytes : List ℕ) → sheet_check bytes ≡ Ok tt → length bytes ≡ 2 + 5 * count bytes
+pub length_good : (bytes : List ℕ) → sheet_check bytes ≡ Ok tt → length bytes ≡ 2 + 5 * count bytes
 length_good bytes good = grind (arith, nat_tests)
 
 rising_good : (bytes : List ℕ) → sheet_check bytes ≡ Ok tt → not_rising (λ p. p) (places bytes) ≡ None
@@ -71,9 +69,9 @@ told_to (suc k) bytes window within rise i h =
     ∙ told_to k bytes window (λ j below. within j (omega arith)) (λ j m less below. rise j m less (omega arith)) i early)
     (eq-or-lt_of_le (le_of_suc-le-suc h))
 
-pub fills : (bytes : List ℕ) (window : List (Option ℕ)) → sheet_check bytes ≡ Ok tt → ((i : ℕ) → place_at bytes i < length window) → Fills bytes window (filled bytes window)
+pub fills : (bytes : List ℕ) (window : List (Option ℕ)) → sheet_check bytes ≡ Ok tt → ((i : ℕ) → i < count bytes → place_at bytes i < length window) → Fills bytes window (filled bytes window)
 fills bytes window good within =
     record {
-      told = told_to (count bytes) bytes window (λ i _. within i) (places_rise bytes good);
+      told = told_to (count bytes) bytes window within (places_rise bytes good);
       kept = kept_to (count bytes) bytes window;
     }

@@ -1,51 +1,52 @@
-ghost use Rattle.std.specs.Prelude.{◌≡◌, ◌<◌, ◌≤◌, length, Ok};
-ghost use Rattle.sheet.specs.Sheets.{sheet_check, count, word_at, filled, Fills};
+ghost use Rattle.std.specs.Prelude.{◌≡◌, ◌≤◌, length, Ok, Err, IfOk, MatchResult};
+ghost use Rattle.sheet.specs.Sheets.{sheet_check, count, filled, Fills};
 
 use crate::fault::SheetFault;
 use numbers::rising::first_not_rising;
+
+// The bytes of a sheet. They passed both checks, so nothing that reads them checks again.
+#[derive(Clone, Copy)]
+pub struct Sheet<'a> {
+    bytes: &'a [u8],
+    ghost checked: { sheet_check bytes.now ≡ Ok tt },
+}
 
 // How many entries the first two bytes say.
 fn entries(bytes: &[u8]) -> usize
     requires { 2 ≤ length bytes.now }
     ensures { result ≡ count bytes.now }
 {
-    bytes[0] as usize + 256 * bytes[1] as usize
+    usize::from(u16::from_le_bytes([bytes[0], bytes[1]]))
 }
 
-// Refuses bytes that are no sheet.
-pub fn check(bytes: &[u8]) -> Result<(), SheetFault>
-    ensures { result ≡ sheet_check bytes.now }
-{
-    if bytes.len() < 2 {
-        return Err(SheetFault::Length);
+impl<'a> Sheet<'a> {
+    // Takes bytes as a sheet, or refuses them by the first check that fails.
+    pub fn read(bytes: &'a [u8]) -> Result<Sheet<'a>, SheetFault>
+        ensures answer { MatchResult result (λ _. sheet_check bytes.now ≡ Ok tt) (λ fault. sheet_check bytes.now ≡ Err fault) }
+        ensures bytes { IfOk result (λ sheet. sheet.bytes.now ≡ bytes.now) }
+    {
+        if bytes.len() < 2 {
+            return Err(SheetFault::Length);
+        }
+        let count = entries(bytes);
+        if count < 1 || count > 256 || bytes.len() != 2 + 5 * count {
+            return Err(SheetFault::Length);
+        }
+        if let Some(index) = first_not_rising(&bytes[2..2 + count]) {
+            return Err(SheetFault::NotRising(index as u32));
+        }
+        Ok(Sheet { bytes })
     }
-    let count = entries(bytes);
-    if count < 1 || count > 256 || bytes.len() != 2 + 5 * count {
-        return Err(SheetFault::Length);
-    }
-    match first_not_rising(&bytes[2..2 + count]) {
-        Some(index) => Err(SheetFault::NotRising(index as u32)),
-        None => Ok(()),
-    }
-}
 
-// The word of the entry i.
-fn word(bytes: &[u8], i: usize) -> u32
-    requires checked { sheet_check bytes.now ≡ Ok tt }
-    requires within { i < count bytes.now }
-    ensures { result ≡ word_at bytes.now i }
-{
-    let at = 2 + entries(bytes) + 4 * i;
-    u32::from_le_bytes([bytes[at], bytes[at + 1], bytes[at + 2], bytes[at + 3]])
-}
-
-// Puts each word of a sheet into its place of the window. The check was passed before.
-pub fn fill(bytes: &[u8], window: &mut [Option<u32>; 256])
-    requires { sheet_check bytes.now ≡ Ok tt }
-    ensures window { window.new ≡ filled bytes.now window.old }
-    ensures law { Fills bytes.now window.old window.new }
-{
-    for i in 0..entries(bytes) {
-        window[bytes[2 + i] as usize] = Some(word(bytes, i));
+    // Puts each word of the sheet into its place of the window.
+    pub fn fill(&self, window: &mut [Option<u32>; 256])
+        ensures window { window.new ≡ filled self.now.bytes.now window.old }
+        ensures law { Fills self.now.bytes.now window.old window.new }
+    {
+        let (places, words) = self.bytes[2..].split_at(entries(self.bytes));
+        let (words, _) = words.as_chunks::<4>();
+        for (place, word) in places.iter().zip(words) {
+            window[usize::from(*place)] = Some(u32::from_le_bytes(*word));
+        }
     }
 }

@@ -11,29 +11,28 @@ use Rattle.program.specs.declared.fault.ProgramFault.{ProgramFault}
 use Rattle.program.specs.declared.kind.Program.{Program}
 use Rattle.program.specs.declared.kind.Program.TheVariants as program
 use Rattle.machine.specs.Calls.{Refused, check_channel, check_program, start_checks, start_program, stored, reserve_state, put_state, unless_refused, start_refused, start_state}
-use Rattle.machine.specs.Means.{Mean}
-use Rattle.machine.specs.Soundness.{new_mean}
+use Rattle.machine.specs.declared.state.State.{State}
+use Rattle.machine.specs.Soundness.{new_state}
 use Rattle.machine.specs.Steps.{reserve, put, start, turn, look, status, Step, done_unless}
 use Rattle.machine.specs.Turns.{landed, served}
 use Rattle.machine.specs.declared.answer.Answer.TheVariants as answer
 use Rattle.machine.specs.declared.answer.Landing.TheVariants as lands
-use Rattle.machine.specs.declared.answer.Service.TheVariants as serves
 use Rattle.machine.specs.declared.fault.ChannelFault.TheVariants as fault
 use Rattle.worked.specs.Figures.{words, channel}
 use Rattle.worked.specs.Story.{cells}
 use Rattle.worked.proofs.Counted.{single_mp}
 
 -- the states that the calls go through, one after another
-abbrev pub reserved : Mean
-reserved = reserve_state new_mean
+abbrev pub reserved : State
+reserved = reserve_state new_state
 
-abbrev pub filled : Mean
+abbrev pub filled : State
 filled = put_state reserved 0 6 70
 
-abbrev pub running : Mean
+abbrev pub running : State
 running = start_program filled 0 (record { single = true; mode = Mp Add; first = 5; last = 5; cell = 1000; word = 1 })
 
-abbrev pub sent : Mean
+abbrev pub sent : State
 sent = served running (Some (channel 0))
 
 abbrev request : Request
@@ -49,10 +48,10 @@ waited = record { cell = cell_after request cells; transit = Some 41 ∷ []; wai
 abbrev pub taken_up : View
 taken_up = record { cell = cell_after request cells; transit = []; wait = 0 }
 
-abbrev pub ended : Mean
+abbrev pub ended : State
 ended = landed sent sent.flight (taken.Reply (Some 41))
 
-pub reserve_step : Step reserve (answer.Given (channel 0)) new_mean cells reserved cells
+pub reserve_step : Step reserve (answer.Given (channel 0)) new_state cells reserved cells
 reserve_step = (refl, refl, refl)
 
 pub put_step : Step (put 0 6 70) answer.Done reserved cells filled cells
@@ -66,14 +65,14 @@ accepted : start_refused filled 0 (words 1967365 1000 1) ≡ None
 accepted = ap (λ (r : Result Program ProgramFault). check_channel 0 (check_program r (λ p. start_checks filled 0 (stored p)))) (single_mp 1000 1)
 
 runs : start_state filled 0 (words 1967365 1000 1) ≡ running
-runs = ap (λ (r : Result Program ProgramFault). elim r as (λ _. Mean) [ Ok p ↦ start_program filled 0 (stored p) | Err f ↦ filled ]) (single_mp 1000 1)
+runs = ap (λ (r : Result Program ProgramFault). elim r as (λ _. State) [ Ok p ↦ start_program filled 0 (stored p) | Err f ↦ filled ]) (single_mp 1000 1)
 
 pub start_step : Step (start 0 (words 1967365 1000 1)) answer.Done filled cells running cells
 start_step = (sym (ap done_unless accepted), sym (ap (λ (r : Refused). unless_refused r filled (start_state filled 0 (words 1967365 1000 1))) accepted ∙ runs), refl)
 
-pub sent_turn : Step turn (answer.Turned (record { landing = lands.Nothing; service = serves.Sent (channel 0) 1 })) running cells sent asked
+pub sent_turn : Step turn (answer.Turned (record { landing = lands.Nothing; service = Some (record { channel = channel 0; requests = 1 }) })) running cells sent asked
 sent_turn = (
-  record { landing = lands.Nothing; service = serves.Sent (channel 0) 1 },
+  record { landing = lands.Nothing; service = Some (record { channel = channel 0; requests = 1 }) },
   refl,
   record {
     answered = taken.Nothing;
@@ -89,9 +88,9 @@ sent_turn = (
 pub refused_put : Step (put 0 6 71) (answer.Refused fault.Running) sent asked sent asked
 refused_put = (refl, refl, refl)
 
-pub waiting_turn : Step turn (answer.Turned (record { landing = lands.NotYet; service = serves.Nothing })) sent asked sent waited
+pub waiting_turn : Step turn (answer.Turned (record { landing = lands.NotYet; service = None })) sent asked sent waited
 waiting_turn = (
-  record { landing = lands.NotYet; service = serves.Nothing },
+  record { landing = lands.NotYet; service = None },
   refl,
   record {
     answered = taken.NotYet;
@@ -104,9 +103,9 @@ waiting_turn = (
   },
 )
 
-pub landing_turn : Step turn (answer.Turned (record { landing = lands.Reply (channel 0) (record { 0 = 5 }) true; service = serves.Nothing })) sent waited ended taken_up
+pub landing_turn : Step turn (answer.Turned (record { landing = lands.Reply (channel 0) (record { 0 = 5 }) true; service = None })) sent waited ended taken_up
 landing_turn = (
-  record { landing = lands.Reply (channel 0) (record { 0 = 5 }) true; service = serves.Nothing },
+  record { landing = lands.Reply (channel 0) (record { 0 = 5 }) true; service = None },
   refl,
   record {
     answered = taken.Reply (Some 41);

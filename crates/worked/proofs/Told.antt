@@ -7,13 +7,12 @@ use Rattle.program.specs.declared.kind.Program.{Program}
 use Rattle.machine.specs.Calls.{stored}
 use Rattle.machine.specs.Histories.{program_of, start_of, starts_on, begun_by, touched, Begun, begun, sent_count, landed_count, Clashes, ClashBy, ConflictsRunning}
 use Rattle.machine.specs.Laws.{place_alone, cell_alone, UnderBy, words_of, words_sent}
-use Rattle.machine.specs.Means.{Mean}
-use Rattle.machine.specs.Soundness.{new_mean}
+use Rattle.machine.specs.declared.state.State.{State}
+use Rattle.machine.specs.Soundness.{new_state}
 use Rattle.machine.specs.Steps.{Call, reserve, put, start, turn, look, status, Event, History, Run, begin, next, seen}
 use Rattle.machine.specs.declared.answer.Answer.{Answer}
 use Rattle.machine.specs.declared.answer.Answer.TheVariants as answer
 use Rattle.machine.specs.declared.answer.Landing.TheVariants as lands
-use Rattle.machine.specs.declared.answer.Service.TheVariants as serves
 use Rattle.machine.specs.declared.fault.ChannelFault.TheVariants as fault
 use Rattle.machine.specs.declared.record.Stored.{Stored}
 use Rattle.machine.proofs.Lawful.{lawful}
@@ -22,7 +21,7 @@ use Rattle.worked.specs.Story.{cells, Story}
 use Rattle.worked.proofs.Counted.{single_mp}
 use Rattle.worked.proofs.Played.{reserved, filled, running, sent, ended, asked, waited, taken_up, mp, reserve_step, put_step, start_step, sent_turn, refused_put, waiting_turn, landing_turn, look_step, look_put, status_step}
 
-abbrev event : Call → Answer → Mean → View → Event
+abbrev event : Call → Answer → State → View → Event
 event call answer m v = record { call = call; answer = answer; after = seen m v }
 
 -- before the start, since the start, and at the end
@@ -34,12 +33,12 @@ begins = event (start 0 (words 1967365 1000 1)) answer.Done running cells ∷ ea
 
 abbrev middle : History
 middle = event (put 0 6 71) (answer.Refused fault.Running) sent asked
-    ∷ event turn (answer.Turned (record { landing = lands.Nothing; service = serves.Sent (channel 0) 1 })) sent asked
+    ∷ event turn (answer.Turned (record { landing = lands.Nothing; service = Some (record { channel = channel 0; requests = 1 }) })) sent asked
     ∷ begins
 
 abbrev late : History
-late = event turn (answer.Turned (record { landing = lands.Reply (channel 0) (record { 0 = 5 }) true; service = serves.Nothing })) ended taken_up
-    ∷ event turn (answer.Turned (record { landing = lands.NotYet; service = serves.Nothing })) sent waited
+late = event turn (answer.Turned (record { landing = lands.Reply (channel 0) (record { 0 = 5 }) true; service = None })) ended taken_up
+    ∷ event turn (answer.Turned (record { landing = lands.NotYet; service = None })) sent waited
     ∷ middle
 
 abbrev whole : History
@@ -48,16 +47,16 @@ whole = event (status 0) (answer.Word 8405016) ended taken_up
     ∷ event (look 0 5) (answer.Word 41) ended taken_up
     ∷ late
 
-run_early : Run new_mean cells early filled cells
+run_early : Run new_state cells early filled cells
 run_early = next (next begin reserve_step) put_step
 
-run_middle : Run new_mean cells middle sent asked
+run_middle : Run new_state cells middle sent asked
 run_middle = next (next (next run_early start_step) sent_turn) refused_put
 
-run_late : Run new_mean cells late ended taken_up
+run_late : Run new_state cells late ended taken_up
 run_late = next (next run_middle waiting_turn) landing_turn
 
-run_whole : Run new_mean cells whole ended taken_up
+run_whole : Run new_state cells whole ended taken_up
 run_whole = next (next (next run_late look_step) look_put) status_step
 
 -- the program that the start begins
@@ -89,7 +88,7 @@ begins_mp = (
 pub story_holds : Story 41
 story_holds = record {
   history = whole;
-  mean = ended;
+  state = ended;
   view = taken_up;
   run = run_whole;
   answers = refl;

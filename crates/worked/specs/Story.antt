@@ -1,19 +1,18 @@
 -- A worked run: a single in MP on a new mover, from the reserve to the status word. So there are runs with an accepted start, and
 -- the law speaks of this one.
-use Rattle.std.specs.Prelude.{◌≡◌, ℕ, true, false, cond, List, [], ◌∷◌, Some, None, Ok, ◌==◌}
+use Rattle.std.specs.Prelude.{◌≡◌, ℕ, true, false, cond, List, [], ◌∷◌, Some, None, Ok, ◌==◌, Option}
 use Rattle.operators.specs.declared.choice.Choice.TheVariants.{Add}
 use Rattle.memory.specs.Views.{View}
 use Rattle.machine.specs.Histories.{Begun, begun, touched, Clashes, sent_count, landed_count}
 use Rattle.machine.specs.Laws.{Law, place_alone, cell_alone, OnlyUnder, words_sent}
-use Rattle.machine.specs.Means.{Mean}
-use Rattle.machine.specs.Soundness.{new_mean}
+use Rattle.machine.specs.declared.state.State.{State}
+use Rattle.machine.specs.Soundness.{new_state}
 use Rattle.machine.specs.Steps.{Call, reserve, put, start, turn, look, status, History, Run, seen}
 use Rattle.machine.specs.declared.answer.Answer.{Answer}
 use Rattle.machine.specs.declared.answer.Answer.TheVariants as answer
 use Rattle.machine.specs.declared.answer.Landing.{Landing}
 use Rattle.machine.specs.declared.answer.Landing.TheVariants as lands
 use Rattle.machine.specs.declared.answer.Service.{Service}
-use Rattle.machine.specs.declared.answer.Service.TheVariants as serves
 use Rattle.machine.specs.declared.fault.ChannelFault.TheVariants as fault
 use Rattle.worked.specs.Figures.{words, channel}
 
@@ -29,7 +28,7 @@ pub record Said : Type 0 where
 abbrev pub said : Call → Answer → Said
 said call answer = record { call = call; answer = answer }
 
-abbrev pub turned : Landing → Service → Said
+abbrev pub turned : Landing → Option Service → Said
 turned landing service = said turn (answer.Turned (record { landing = landing; service = service }))
 
 -- what was called and answered in a history
@@ -45,10 +44,10 @@ told loaded =
     said (status 0) (answer.Word 8405016)
     ∷ said (look 0 6) (answer.Word 70)
     ∷ said (look 0 5) (answer.Word loaded)
-    ∷ turned (lands.Reply (channel 0) (record { 0 = 5 }) true) serves.Nothing
-    ∷ turned lands.NotYet serves.Nothing
+    ∷ turned (lands.Reply (channel 0) (record { 0 = 5 }) true) None
+    ∷ turned lands.NotYet None
     ∷ said (put 0 6 71) (answer.Refused fault.Running)
-    ∷ turned lands.Nothing (serves.Sent (channel 0) 1)
+    ∷ turned lands.Nothing (Some (record { channel = channel 0; requests = 1 }))
     ∷ said (start 0 (words 1967365 1000 1)) answer.Done
     ∷ said (put 0 6 70) answer.Done
     ∷ said reserve (answer.Given (channel 0))
@@ -57,9 +56,9 @@ told loaded =
 -- there is such a run, and this is what look tells of place 5 in it
 pub record Story (loaded : ℕ) : Type 0 where
   pub history : History
-  pub mean : Mean
+  pub state : State
   pub view : View
-  pub run : Run new_mean cells history mean view
+  pub run : Run new_state cells history state view
   pub answers : said_in history ≡ told loaded
   -- the cell holds the sum, and the other fitted cell its word as before
   pub summed : view.cell 1000 ≡ Some 42
@@ -75,4 +74,4 @@ pub record Story (loaded : ℕ) : Type 0 where
   pub alike : (b : Begun)
       × ((begun 0 history ≡ Some b) × (place_alone 0 b (landed_count 0 history) 5 ≡ Ok loaded) × (cell_alone 0 b (sent_count 0 history) 0 ≡ Some 42))
   -- so the law holds of it
-  pub law : Law (seen new_mean cells) history
+  pub law : Law (seen new_state cells) history

@@ -1,8 +1,8 @@
 ghost use Rattle.std.specs.Prelude.{◌≡◌, Ok};
 ghost use Rattle.machine.specs.Laws.{Opens};
-ghost use Rattle.machine.specs.Soundness.{new_mean};
+ghost use Rattle.machine.specs.Soundness.{new_state};
 ghost use Rattle.mover.specs.Making.{mover_check};
-ghost use Rattle.mover.specs.Meaning.{mean, MoverSound};
+ghost use Rattle.mover.specs.Meaning.{MoverSound};
 
 use crate::mover::Mover;
 use channels::making::new_state;
@@ -12,7 +12,6 @@ use memory::interface::HallMemory;
 impl<M: HallMemory> Mover<M> {
     // Refuses a memory that has replies in transit. It stays with its owner, who lends it for the check.
     pub fn check(memory: &M) -> Result<(), MemoryFault>
-        requires { M.HallMemory.sound memory.now }
         ensures { result ≡ mover_check (M.HallMemory.view memory.now) }
     {
         if memory.waiting() > 0 {
@@ -23,11 +22,10 @@ impl<M: HallMemory> Mover<M> {
 
     // A new mover over this memory. The check was passed before.
     pub fn new(memory: M) -> Mover<M>
-        requires sound { M.HallMemory.sound memory }
-        requires checked { mover_check (M.HallMemory.view memory) ≡ Ok tt }
-        ensures sound { MoverSound M.HallMemory result }
-        ensures state { mean result ≡ new_mean }
-        ensures opens { Opens (mean result) (M.HallMemory.view result.memory) }
+        requires { mover_check (M.HallMemory.view memory) ≡ Ok tt }
+        ensures sound { MoverSound M.HallMemory result.memory result.state }
+        ensures state { result.state ≡ new_state }
+        ensures opens { Opens result.state (M.HallMemory.view result.memory) }
         ensures memory { result.memory ≡ memory }
     {
         Mover {

@@ -19,15 +19,15 @@ impl PlaceRange {
         ensures rest { option_map span result.rest ≡ after_piece (span self) }
         ensures pieces { pieces_of (span self) ≡ span result.piece ∷ pieces_left result.rest }
     {
-        let boundary = self.first.0 / 8 * 8 + 7;
-        if boundary < self.last.0 {
+        let boundary = Place(self.first.0 / 8 * 8 + 7);
+        if boundary < self.last {
             Cut {
                 piece: PlaceRange {
                     first: self.first,
-                    last: Place(boundary),
+                    last: boundary,
                 },
                 rest: Some(PlaceRange {
-                    first: Place(boundary + 1),
+                    first: Place(boundary.0 + 1),
                     last: self.last,
                 }),
             }

@@ -1,5 +1,5 @@
 ghost use Rattle.std.specs.Prelude.{◌≡◌};
-ghost use Rattle.program.specs.Pieces.{from_to, span};
+ghost use Rattle.program.specs.Pieces.{from_to, span, span_len};
 ghost use Rattle.program.specs.Ranges.{range_of};
 
 use crate::range::PlaceRange;
@@ -10,7 +10,7 @@ impl PlaceRange {
     pub fn checked(first: Place, last: Place) -> Option<PlaceRange>
         ensures { result ≡ range_of first last }
     {
-        if first.0 <= last.0 {
+        if first <= last {
             Some(PlaceRange { first, last })
         } else {
             None
@@ -37,5 +37,13 @@ impl PlaceRange {
         ensures { result ≡ self.now.last }
     {
         self.last
+    }
+
+    // How many places the range has: 1 to 256.
+    pub fn len(&self) -> u16
+        ensures { result ≡ span_len (span self.now) }
+    {
+        let PlaceRange { first, last, .. } = *self;
+        u16::from(last.0 - first.0) + 1
     }
 }

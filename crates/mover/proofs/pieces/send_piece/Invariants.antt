@@ -4,5 +4,4 @@ use Rattle.mover.proofs.pieces.send_piece.Given as goal
 
 abbrev pub invariant-loop-place : goal.invariant-loop-place
 invariant-loop-place g l =
-    g.M.HallMemory.sound l.memory
-    × SentAll (requests_from l.channel (l.place - l.first) l.first) (g.M.HallMemory.view l.initial.memory) (g.M.HallMemory.view l.memory)
+    SentAll (requests_from l.channel (l.place - l.initial.place) l.initial.place) (g.M.HallMemory.view l.initial.memory) (g.M.HallMemory.view l.memory)

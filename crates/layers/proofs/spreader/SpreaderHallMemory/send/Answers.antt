@@ -4,4 +4,4 @@ use Rattle.layers.proofs.Spreading.{apart}
 use Rattle.layers.proofs.spreader.SpreaderHallMemory.send.Goals as goal
 
 pub returns : goal.returns
-returns g c = let unmixed = apart c.args.self.now.factor c.requires.1 in grind (arith, nat_tests)
+returns g c = let unmixed = apart c.args.self.now.factor c.args.self.now.odd in grind (arith, nat_tests)

@@ -1,18 +1,12 @@
-use Rattle.std.proofs.Common.{rules}
+use Rattle.std.proofs.Common.{refl}
 use Rattle.machine.specs.Steps as call
+use Rattle.machine.proofs.KeptSteps.{sound_step}
 use Rattle.machine.proofs.Lawful.{keeps}
-use Rattle.mover.proofs.Keeping.{state_sound}
 use Rattle.machine.proofs.Stepping.{done_is}
-use Rattle.machine.proofs.Telling.{put_told}
 use Rattle.mover.proofs.mover.Mover.put.Goals as goal
 
-pub put-requires : goal.put-requires
-put-requires g c = state_sound g.M.HallMemory c.args.self.now c.requires
+pub invariant_of-self : goal.invariant_of-self
+invariant_of-self g c = sound_step (call.put c.args.channel c.args.place c.args.word) _ _ _ _ _ (done_is _ _ c.put.ensures.answer, c.put.ensures.after, refl) c.self.invariant
 
-pub returns : goal.returns
-returns g c =
-    record {
-      sound = search rules;
-      keeps = keeps (call.put c.args.channel c.args.place c.args.word) _ _ _ _ _ (done_is _ _ (search rules), search rules, search rules);
-      told = put_told _ _ _ c.args.channel c.args.place c.args.word _ c.requires.state (search rules) (search rules);
-    }
+pub returns-clause-keeps : goal.returns-clause-keeps
+returns-clause-keeps g c = rw (← c.self.view_is) (keeps (call.put c.args.channel c.args.place c.args.word) _ _ _ _ _ (done_is _ _ c.put.ensures.answer, c.put.ensures.after, refl))

@@ -1,17 +1,15 @@
-use Rattle.std.proofs.Common.{ap, rules}
+use Rattle.std.proofs.Common.{refl, ap}
 use Rattle.machine.specs.Steps as call
+use Rattle.machine.proofs.KeptSteps.{sound_step}
 use Rattle.machine.proofs.Lawful.{keeps}
-use Rattle.mover.proofs.Keeping.{state_sound}
 use Rattle.machine.proofs.Telling.{reserve_told}
 use Rattle.mover.proofs.mover.Mover.reserve.Goals as goal
 
-pub reserve-requires : goal.reserve-requires
-reserve-requires g c = state_sound g.M.HallMemory c.args.self.now c.requires
+pub invariant_of-self : goal.invariant_of-self
+invariant_of-self g c = sound_step call.reserve _ _ _ _ _ (ap call.given_or c.reserve.ensures.answer, c.reserve.ensures.after, refl) c.self.invariant
 
-pub returns : goal.returns
-returns g c =
-    record {
-      sound = search rules;
-      keeps = keeps call.reserve _ _ _ _ _ (ap call.given_or (search rules), search rules, search rules);
-      told = reserve_told _ _ _ (search rules) (search rules);
-    }
+pub returns-clause-keeps : goal.returns-clause-keeps
+returns-clause-keeps g c = rw (← c.self.view_is) (keeps call.reserve _ _ _ _ _ (ap call.given_or c.reserve.ensures.answer, c.reserve.ensures.after, refl))
+
+pub returns-clause-told : goal.returns-clause-told
+returns-clause-told g c = rw (← c.self.view_is) (reserve_told _ _ _ c.reserve.ensures.answer c.reserve.ensures.after)

@@ -1,16 +1,12 @@
-use Rattle.std.proofs.Common.{rules}
+use Rattle.std.proofs.Common.{refl}
 use Rattle.machine.specs.Steps as call
+use Rattle.machine.proofs.KeptSteps.{sound_step}
 use Rattle.machine.proofs.Lawful.{keeps}
-use Rattle.mover.proofs.Keeping.{state_sound}
 use Rattle.machine.proofs.Stepping.{done_is}
 use Rattle.mover.proofs.mover.Mover.stop.Goals as goal
 
-pub stop-requires : goal.stop-requires
-stop-requires g c = state_sound g.M.HallMemory c.args.self.now c.requires
+pub invariant_of-self : goal.invariant_of-self
+invariant_of-self g c = sound_step (call.stop c.args.channel) _ _ _ _ _ (done_is _ _ c.stop.ensures.answer, c.stop.ensures.after, refl) c.self.invariant
 
 pub returns : goal.returns
-returns g c =
-    record {
-      sound = search rules;
-      keeps = keeps (call.stop c.args.channel) _ _ _ _ _ (done_is _ _ (search rules), search rules, search rules);
-    }
+returns g c = rw (← c.self.view_is) (keeps (call.stop c.args.channel) _ _ _ _ _ (done_is _ _ c.stop.ensures.answer, c.stop.ensures.after, refl))

@@ -4,5 +4,4 @@ use Rattle.machine.proofs.Lawful.{keeps}
 use Rattle.mover.proofs.mover.Mover.turn.Goals as goal
 
 pub returns : goal.returns
-returns g c =
-    record { sound = search rules; keeps = keeps call.turn _ _ _ _ _ (_, refl, search rules) }
+returns g c = rw (← c.self.view_is) (keeps call.turn _ _ _ _ _ (_, refl, search rules))

@@ -3,10 +3,8 @@ use Rattle.program.specs.Pieces.{span}
 use Rattle.program.proofs.Cutting.{pieces_last, pieces_more}
 use Rattle.program.proofs.range.PlaceRange.cut.Goals as goal
 
-pub returns-then-boundary-self : goal.returns-then-boundary-self
-returns-then-boundary-self c =
-    record { piece = search rules; rest = search rules; pieces = pieces_more (span c.args.self) c.if-boundary-self.true }
+pub returns-then-lt-clause-pieces : goal.returns-then-lt-clause-pieces
+returns-then-lt-clause-pieces c = pieces_more (span c.args.self) (search rules)
 
-pub returns-else-boundary-self : goal.returns-else-boundary-self
-returns-else-boundary-self c =
-    record { piece = search rules; rest = search rules; pieces = pieces_last (span c.args.self) c.args.self.ordered c.if-boundary-self.false }
+pub returns-else-lt-clause-pieces : goal.returns-else-lt-clause-pieces
+returns-else-lt-clause-pieces c = pieces_last (span c.args.self) c.args.self.ordered (search rules)

@@ -3,8 +3,17 @@ use Rattle.std.proofs.lemmas.Bool.Decides.{nat_tests}
 use Rattle.queue.proofs.Steps.{longer_sound, held_longer}
 use Rattle.queue.proofs.line.Queue.push.Goals as goal
 
-pub returns : goal.returns
-returns g c =
-    let sound = longer_sound c.args.self.now.cursor c.args.self.now.slots g.row.N c.requires c.in-Some.end c.args.x in
-    let holds = held_longer c.args.self.now.cursor c.args.self.now.slots g.row.N c.requires c.args.x in
+pub invariant_of-self-2 : goal.invariant_of-self-2
+invariant_of-self-2 g c =
+    let sound = longer_sound c.self.inside.cursor c.self.inside.slots g.row.N c.self.invariant c.in_ok-end.end c.args.x in
+    grind (arith, nat_tests)
+
+pub returns-clause-holds : goal.returns-clause-holds
+returns-clause-holds g c =
+    let holds = held_longer c.self.inside.cursor c.self.inside.slots g.row.N c.self.invariant c.args.x in
+    rw (← c.self.view_is) (grind (arith, nat_tests))
+
+pub returns-clause-few : goal.returns-clause-few
+returns-clause-few g c =
+    let sound = longer_sound c.self.inside.cursor c.self.inside.slots g.row.N c.self.invariant c.in_ok-end.end c.args.x in
     grind (arith, nat_tests)

@@ -1,14 +1,18 @@
 use Rattle.std.proofs.Common.{arith}
-use Rattle.std.proofs.lemmas.List.{set_past}
 use Rattle.std.proofs.lemmas.Bool.Decides.{nat_tests}
-use Rattle.queue.proofs.Steps.{set_sound, held_set}
+use Rattle.std.proofs.lemmas.Option.{slice_get-get_or}
+use Rattle.queue.proofs.Steps.{set_sound, held_set, held_at}
 use Rattle.queue.proofs.line.Queue.replace_first.Goals as goal
 
-pub returns-in_default : goal.returns-in_default
-returns-in_default g c = grind (arith, nat_tests, set_past)
+pub invariant_of-self : goal.invariant_of-self
+invariant_of-self g c = set_sound c.self.inside.cursor c.self.inside.slots g.row.N c.self.invariant c.in_ok-slot.slot c.args.x
 
-pub returns : goal.returns
-returns g c =
-    let sound = set_sound c.args.self.now.cursor c.args.self.now.slots g.row.N c.requires c.in-Some.slot c.args.x in
-    let holds = held_set c.args.self.now.cursor c.args.self.now.slots g.row.N c.requires 0 c.args.x in
-    grind (arith, nat_tests)
+pub returns-clause-holds : goal.returns-clause-holds
+returns-clause-holds g c =
+    let holds = held_set c.self.inside.cursor c.self.inside.slots g.row.N c.self.invariant 0 c.args.x in
+    rw (← c.self.view_is) (grind (arith, nat_tests))
+
+pub returns-clause-answer : goal.returns-clause-answer
+returns-clause-answer g c =
+    let at = held_at c.self.inside.cursor c.self.inside.slots g.row.N c.self.invariant 0 c.index-self-slot.result in
+    rw (← c.self.view_is) (grind (arith, nat_tests, slice_get-get_or))
