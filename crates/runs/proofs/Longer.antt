@@ -28,7 +28,7 @@ goes_more calls answers i d a before m n was v w within room so_far one cells no
     record {
       history = record { call = call_of c; answer = a; after = seen n w } ∷ ran.history;
       run = one.extends cells ran.history ran.run;
-      law = one.law cells ran.history nothing ran.run;
+      law = (one.law cells ran.history nothing ran.run, ran.law);
       calls_asked =
           ap (λ (l : List defined.Call). l ++ call_of c ∷ []) ran.calls_asked ∙ sym (ap calls_of (take_more calls i d within) ∙ calls_push (take i calls) c);
       answers_told = ap (λ (l : List Answer). l ++ a ∷ []) ran.answers_told ∙ sym (take_more_set answers i a room);

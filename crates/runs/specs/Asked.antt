@@ -5,7 +5,7 @@ use Rattle.machine.specs.Laws.{Law}
 use Rattle.machine.specs.declared.state.State.{State}
 use Rattle.machine.specs.Soundness.{new_state}
 use Rattle.machine.specs.Steps as defined
-use Rattle.machine.specs.Steps.{History, Run, seen}
+use Rattle.machine.specs.Steps.{History, Run, Seen, seen}
 use Rattle.machine.specs.declared.answer.Answer.{Answer}
 use Rattle.runs.specs.declared.call.Call.{Call}
 use Rattle.runs.specs.declared.call.Call.TheVariants as call
@@ -36,11 +36,16 @@ abbrev pub calls_of : List Call → List defined.Call
 calls_of [] = []
 calls_of (c ∷ cs) = call_of c ∷ calls_of cs
 
--- a run of exactly these calls with exactly these answers over a memory that opened as `cells`, and its law
+-- the law at the outset and after each call of a history
+abbrev pub Throughout : Seen → History → Type 0
+Throughout opening [] = Law opening []
+Throughout opening (e ∷ h) = Law opening (e ∷ h) × Throughout opening h
+
+-- a run of exactly these calls with exactly these answers over a memory that opened as `cells`, and the law after each of them
 pub record Ran (cells : View) (calls : List Call) (answers : List Answer) (m : State) (v : View) : Type 0 where
   pub history : History
   pub run : Run new_state cells history m v
-  pub law : Law (seen new_state cells) history
+  pub law : Throughout (seen new_state cells) history
   pub calls_asked : asked history ≡ calls_of calls
   pub answers_told : told history ≡ answers
 

@@ -1,5 +1,5 @@
 -- What a whole run gives.
-use Rattle.std.specs.Prelude.{◌≡◌, min, List, length, take, Err}
+use Rattle.std.specs.Prelude.{◌≡◌, min, List, length, take, drop, Err}
 use Rattle.memory.specs.declared.interface.HallMemory.{Ghosts}
 use Rattle.machine.specs.declared.answer.Answer.{Answer}
 use Rattle.mover.specs.Making.{mover_check}
@@ -8,9 +8,10 @@ use Rattle.runs.specs.Asked.{Ran}
 use Rattle.runs.specs.declared.call.Call.{Call}
 use Rattle.runs.specs.declared.run.Returned.{Returned}
 
--- the law of exactly the calls that were asked and the answers that were told
-pub record RanWhole {M : Type 0} (hall : Ghosts M) (memory : M) (calls : List Call) (answers : List Answer) (s : Whole M) : Type 0 where
+-- a run of exactly the calls that were asked with the answers that were told; places for answers beyond them keep what they held
+pub record RanWhole {M : Type 0} (hall : Ghosts M) (memory : M) (calls : List Call) (before answers : List Answer) (s : Whole M) : Type 0 where
   pub ran : Ran (hall.view memory) (take (min (length calls) (length answers)) calls) (take (min (length calls) (length answers)) answers) s.state (hall.view s.memory)
+  pub rest : drop (min (length calls) (length answers)) answers ≡ drop (min (length calls) (length answers)) before
 
 -- the refusal, the memory as it was, and no answer written
 pub record GaveBack {M : Type 0} (hall : Ghosts M) (memory : M) (before after : List Answer) (r : Returned M) : Type 0 where

@@ -1,4 +1,4 @@
-ghost use Rattle.std.specs.Prelude.{◌≡◌, min, length, MatchResult};
+ghost use Rattle.std.specs.Prelude.{drop, ◌≡◌, min, length, MatchResult};
 ghost use Rattle.mover.specs.Meaning.{Moves};
 ghost use Rattle.runs.specs.Asked.{call_of, GoesOn};
 ghost use Rattle.runs.specs.Whole.{RanWhole, GaveBack};
@@ -52,8 +52,9 @@ pub fn carry_out<M: HallMemory>(mover: &mut Mover<M>, call: Call<'_>) -> Answer
 
 // Carries out as many of the calls as there are places for their answers, in order. The places are the caller's, so that no call
 // fails for want of memory. They are found by the index of the call, as the clause counts both from the first.
-pub fn carry_all<M: HallMemory>(mover: &mut Mover<M>, calls: &[Call<'_>], answers: &mut [Answer])
-    ensures { GoesOn calls.now answers.new (min (length calls.now) (length answers.old)) mover.old.state (M.HallMemory.view mover.old.memory) mover.new.state (M.HallMemory.view mover.new.memory) }
+fn carry_all<M: HallMemory>(mover: &mut Mover<M>, calls: &[Call<'_>], answers: &mut [Answer])
+    ensures ran { GoesOn calls.now answers.new (min (length calls.now) (length answers.old)) mover.old.state (M.HallMemory.view mover.old.memory) mover.new.state (M.HallMemory.view mover.new.memory) }
+    ensures rest { drop (min (length calls.now) (length answers.old)) answers.new ≡ drop (min (length calls.now) (length answers.old)) answers.old }
 {
     let count = calls.len().min(answers.len());
     for (i, call) in calls[..count].iter().enumerate() {
@@ -74,7 +75,7 @@ pub fn run<M: HallMemory>(
     calls: &[Call<'_>],
     answers: &mut [Answer],
 ) -> Result<Mover<M>, Returned<M>>
-    ensures { MatchResult result (RanWhole M.HallMemory memory calls.now answers.new) (GaveBack M.HallMemory memory answers.old answers.new) }
+    ensures { MatchResult result (RanWhole M.HallMemory memory calls.now answers.old answers.new) (GaveBack M.HallMemory memory answers.old answers.new) }
 {
     match Mover::check(&memory) {
         Err(fault) => Err(Returned { memory, fault }),

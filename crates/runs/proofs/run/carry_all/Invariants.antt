@@ -1,7 +1,9 @@
+use Rattle.std.specs.Prelude.{◌≡◌, drop}
 use Rattle.runs.specs.Asked.{GoesOn}
 use Rattle.runs.proofs.run.carry_all.Given as goal
 
 abbrev pub invariant-loop-i : goal.invariant-loop-i
 invariant-loop-i g l =
     let view = g.M.HallMemory.view in
-    GoesOn l.calls l.answers l.i l.initial.mover.state (view l.initial.mover.memory) l.mover.state (view l.mover.memory)
+    (GoesOn l.calls l.answers l.i l.initial.mover.state (view l.initial.mover.memory) l.mover.state (view l.mover.memory))
+    × (drop l.count l.answers ≡ drop l.count l.initial.answers)
