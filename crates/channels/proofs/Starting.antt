@@ -8,8 +8,7 @@ use Rattle.program.specs.declared.fault.ProgramFault.{ProgramFault}
 use Rattle.program.specs.declared.kind.Program.{Program}
 use Rattle.program.specs.declared.layout.Words.{Words}
 use Rattle.machine.specs.Calls.{Refused, answered, unless_refused, check_channel, check_program, stored, start_checks, start_refused, start_program, start_state}
-use Rattle.machine.specs.declared.state.State.{State}
-use Rattle.machine.specs.Means.{record_of}
+use Rattle.machine.specs.Means.{Mean, record_of}
 use Rattle.machine.specs.declared.fault.ChannelFault.{ChannelFault}
 use Rattle.machine.specs.declared.record.Stored.{Stored}
 
@@ -29,16 +28,16 @@ answered_err None f e = absurd (let z : ◌≡◌ {A = ℕ} 0 1 = cc in omega ar
 answered_err (Some g) f e = cc
 
 -- the same over the outcome of reading
-abbrev refused_by : State → ℕ → Result Program ProgramFault → Refused
+abbrev refused_by : Mean → ℕ → Result Program ProgramFault → Refused
 refused_by m c r = check_channel c (check_program r (λ p. start_checks m c (stored p)))
 
-abbrev state_by : State → ℕ → Result Program ProgramFault → State
+abbrev state_by : Mean → ℕ → Result Program ProgramFault → Mean
 state_by m c r = elim r [ Ok p ↦ start_program m c (stored p) | Err f ↦ m ]
 
 low_channel : (c : ℕ) (x : Refused) → c < 16 → check_channel c x ≡ x
 low_channel c x low = grind (arith, nat_tests)
 
-module _ (m : State) (c : ℕ) (w : Words) (p : Program) (low : c < 16) (read : Ok p ≡ read_program w) where
+module _ (m : Mean) (c : ℕ) (w : Words) (p : Program) (low : c < 16) (read : Ok p ≡ read_program w) where
   refused_is : start_refused m c w ≡ start_checks m c (stored p)
   refused_is = ap (refused_by m c) (sym read) ∙ low_channel c (start_checks m c (stored p)) low
 
@@ -58,5 +57,5 @@ module _ (m : State) (c : ℕ) (w : Words) (p : Program) (low : c < 16) (read : 
   accepted_state e = sym state_is ∙ ap (λ (x : Refused). unless_refused x m (start_state m c w)) (sym (refused_is ∙ e))
 
 -- an accepted start finds the channel resting
-pub rests : (m : State) (c : ℕ) (p : Stored) → start_checks m c p ≡ None → (record_of m c).flags.running ≡ false
+pub rests : (m : Mean) (c : ℕ) (p : Stored) → start_checks m c p ≡ None → (record_of m c).flags.running ≡ false
 rests m c p e = grind (arith, nat_tests)

@@ -1,6 +1,6 @@
 ghost use Rattle.std.specs.Prelude.{◌≡◌, ◌<◌, ◌≤◌, true, false, length};
 ghost use Rattle.machine.specs.Calls.{answered, unless_refused, put_refused, put_state, look_answer, stop_refused, stop_state, release_refused, release_state, fill_refused, fill_state, reserve_answer, reserve_state, start_refused, start_state, start_checks, start_program, join_line, status_answer};
-ghost use Rattle.machine.specs.Means.{record_of};
+ghost use Rattle.machine.specs.Means.{mean_of, record_of};
 ghost use Rattle.channels.specs.Standing.{Standing};
 
 use crate::checks::{reserved, resting, running};
@@ -17,7 +17,7 @@ use sheet::layout::Sheet;
 
 // Tells one place.
 pub fn look(state: &State, channel: u32, place: u32) -> Result<u32, ChannelFault>
-    ensures { result ≡ look_answer state.now channel place }
+    ensures { result ≡ look_answer (mean_of state.now) channel place }
 {
     let channel = Channel::try_from(channel)?;
     let Place(place) = Place::try_from(place)?;
@@ -28,8 +28,8 @@ pub fn look(state: &State, channel: u32, place: u32) -> Result<u32, ChannelFault
 
 // Writes one place.
 pub fn put(state: &mut State, channel: u32, place: u32, word: u32) -> Result<(), ChannelFault>
-    ensures answer { result ≡ answered (put_refused state.old channel place) tt }
-    ensures after { state.new ≡ unless_refused (put_refused state.old channel place) state.old (put_state state.old channel place word) }
+    ensures answer { result ≡ answered (put_refused (mean_of state.old) channel place) tt }
+    ensures after { mean_of state.new ≡ unless_refused (put_refused (mean_of state.old) channel place) (mean_of state.old) (put_state (mean_of state.old) channel place word) }
 {
     let channel = Channel::try_from(channel)?;
     let place = Place::try_from(place)?;
@@ -40,8 +40,8 @@ pub fn put(state: &mut State, channel: u32, place: u32, word: u32) -> Result<(),
 
 // Marks a running channel; a second stop adds nothing.
 pub fn stop(state: &mut State, channel: u32) -> Result<(), ChannelFault>
-    ensures answer { result ≡ answered (stop_refused state.old channel) tt }
-    ensures after { state.new ≡ unless_refused (stop_refused state.old channel) state.old (stop_state state.old channel) }
+    ensures answer { result ≡ answered (stop_refused (mean_of state.old) channel) tt }
+    ensures after { mean_of state.new ≡ unless_refused (stop_refused (mean_of state.old) channel) (mean_of state.old) (stop_state (mean_of state.old) channel) }
 {
     let channel = Channel::try_from(channel)?;
     running(&state.records[channel.0 as usize])?;
@@ -51,8 +51,8 @@ pub fn stop(state: &mut State, channel: u32) -> Result<(), ChannelFault>
 
 // Frees a channel and clears its record; its window stays.
 pub fn release(state: &mut State, channel: u32) -> Result<(), ChannelFault>
-    ensures answer { result ≡ answered (release_refused state.old channel) tt }
-    ensures after { state.new ≡ unless_refused (release_refused state.old channel) state.old (release_state state.old channel) }
+    ensures answer { result ≡ answered (release_refused (mean_of state.old) channel) tt }
+    ensures after { mean_of state.new ≡ unless_refused (release_refused (mean_of state.old) channel) (mean_of state.old) (release_state (mean_of state.old) channel) }
 {
     let channel = Channel::try_from(channel)?;
     resting(&state.records[channel.0 as usize])?;
@@ -63,8 +63,8 @@ pub fn release(state: &mut State, channel: u32) -> Result<(), ChannelFault>
 
 // Puts the words of a sheet into its places.
 pub fn fill(state: &mut State, channel: u32, bytes: &[u8]) -> Result<(), ChannelFault>
-    ensures answer { result ≡ answered (fill_refused state.old channel bytes.now) tt }
-    ensures after { state.new ≡ unless_refused (fill_refused state.old channel bytes.now) state.old (fill_state state.old channel bytes.now) }
+    ensures answer { result ≡ answered (fill_refused (mean_of state.old) channel bytes.now) tt }
+    ensures after { mean_of state.new ≡ unless_refused (fill_refused (mean_of state.old) channel bytes.now) (mean_of state.old) (fill_state (mean_of state.old) channel bytes.now) }
 {
     let channel = Channel::try_from(channel)?;
     let sheet = Sheet::read(bytes)?;
@@ -75,8 +75,8 @@ pub fn fill(state: &mut State, channel: u32, bytes: &[u8]) -> Result<(), Channel
 
 // Gives the lowest free channel, with an empty window and a clear record.
 pub fn reserve(state: &mut State) -> Result<Channel, ChannelFault>
-    ensures answer { result ≡ reserve_answer state.old }
-    ensures after { state.new ≡ reserve_state state.old }
+    ensures answer { result ≡ reserve_answer (mean_of state.old) }
+    ensures after { mean_of state.new ≡ reserve_state (mean_of state.old) }
 {
     let channel = lowest_free(&state.records).ok_or(ChannelFault::NoneFree)?;
     state.records[channel.0 as usize] = empty_record(true);
@@ -85,8 +85,8 @@ pub fn reserve(state: &mut State) -> Result<Channel, ChannelFault>
 
 // Tells the status word of a channel, reserved or not.
 pub fn status(state: &State, channel: u32) -> Result<u32, ChannelFault>
-    requires { Standing state.now }
-    ensures { result ≡ status_answer state.now channel }
+    requires { Standing (mean_of state.now) }
+    ensures { result ≡ status_answer (mean_of state.now) channel }
 {
     let channel = Channel::try_from(channel)?;
     let free = lowest_free(&state.records);
@@ -96,9 +96,9 @@ pub fn status(state: &State, channel: u32) -> Result<u32, ChannelFault>
 
 // Puts a channel at the end of the line of its kind.
 fn join_line(state: &mut State, single: bool, channel: Channel)
-    requires singles { length state.old.singles < 16 }
-    requires blocks { length state.old.blocks < 16 }
-    ensures { state.new ≡ join_line single channel.0 state.old }
+    requires singles { length (mean_of state.old).singles < 16 }
+    requires blocks { length (mean_of state.old).blocks < 16 }
+    ensures { mean_of state.new ≡ join_line single channel.0 (mean_of state.old) }
 {
     let _ = if single {
         state.singles.push(channel)
@@ -110,7 +110,7 @@ fn join_line(state: &mut State, single: bool, channel: Channel)
 // Checks 22 to 25 of start.
 fn startable(state: &State, channel: Channel, program: &Stored) -> Result<(), ChannelFault>
     requires { channel.0 < 16 }
-    ensures { result ≡ answered (start_checks state.now channel.0 program.now) tt }
+    ensures { result ≡ answered (start_checks (mean_of state.now) channel.0 program.now) tt }
 {
     let record = &state.records[channel.0 as usize];
     resting(record)?;
@@ -122,10 +122,10 @@ fn startable(state: &State, channel: Channel, program: &Stored) -> Result<(), Ch
 
 // Sets a resting channel running, at the end of its line.
 fn begin(state: &mut State, channel: Channel, program: Stored)
-    requires standing { Standing state.old }
+    requires standing { Standing (mean_of state.old) }
     requires low { channel.0 < 16 }
-    requires rests { (record_of state.old channel.0).flags.running ≡ false }
-    ensures { state.new ≡ start_program state.old channel.0 program }
+    requires rests { (record_of (mean_of state.old) channel.0).flags.running ≡ false }
+    ensures { mean_of state.new ≡ start_program (mean_of state.old) channel.0 program }
 {
     let record = &mut state.records[channel.0 as usize];
     *record = started_record(program, record.window);
@@ -134,9 +134,9 @@ fn begin(state: &mut State, channel: Channel, program: Stored)
 
 // Reads a program and sets the channel running.
 pub fn start(state: &mut State, channel: u32, words: Words) -> Result<(), ChannelFault>
-    requires { Standing state.old }
-    ensures answer { result ≡ answered (start_refused state.old channel words) tt }
-    ensures after { state.new ≡ unless_refused (start_refused state.old channel words) state.old (start_state state.old channel words) }
+    requires { Standing (mean_of state.old) }
+    ensures answer { result ≡ answered (start_refused (mean_of state.old) channel words) tt }
+    ensures after { mean_of state.new ≡ unless_refused (start_refused (mean_of state.old) channel words) (mean_of state.old) (start_state (mean_of state.old) channel words) }
 {
     let channel = Channel::try_from(channel)?;
     let program = Stored::from(Program::read(words)?);

@@ -1,5 +1,6 @@
 ghost use Rattle.std.specs.Prelude.{◌≡◌};
-ghost use Rattle.machine.specs.Soundness.{new_state};
+ghost use Rattle.machine.specs.Means.{mean_of};
+ghost use Rattle.machine.specs.Soundness.{new_mean};
 
 use crate::records::empty_record;
 use machine::piece::Piece;
@@ -10,7 +11,7 @@ use queue::line::Queue;
 
 // The state of a new mover: all channels free, all windows empty, nothing waits, nothing is in flight.
 pub fn new_state() -> State
-    ensures { result ≡ new_state }
+    ensures { mean_of result ≡ new_mean }
 {
     let records = [empty_record(false); 16];
     State {

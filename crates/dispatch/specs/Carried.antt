@@ -10,7 +10,7 @@ use Rattle.memory.specs.declared.interface.HallMemory.{Ghosts}
 use Rattle.memory.specs.declared.request.Request.{Request}
 use Rattle.memory.specs.declared.request.Taken.{Taken}
 use Rattle.machine.specs.Laws.{Opens}
-use Rattle.machine.specs.Soundness.{new_state}
+use Rattle.machine.specs.Soundness.{new_mean}
 use Rattle.machine.specs.Steps as defined
 use Rattle.machine.specs.declared.answer.Answer.{Answer}
 use Rattle.mover.specs.Making.{mover_check}
@@ -84,7 +84,7 @@ Asks hall command r (Mover s) after = Missing r (Mover s) after
 
 -- a new mover over the same memory, which begins an empty run
 pub record Fresh {M : Type 0} (hall : Ghosts M) (memory : M) (s : Whole M) : Type 0 where
-  pub state : s.state ≡ new_state
+  pub state : s.state ≡ new_mean
   pub opens : Opens s.state (hall.view s.memory)
   pub memory_same : s.memory ≡ memory
 

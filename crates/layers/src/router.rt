@@ -1,4 +1,5 @@
 ghost use Rattle.std.specs.Prelude.{◌≡◌, ◌≤◌, [], length, if◌then◌else◌, is_ok, Ok};
+ghost use Rattle.queue.specs.Queues.{items};
 ghost use Rattle.layers.specs.Routers.{side_of, router_view, router_check, owing, order_after, order_taken, Tied, OneSide};
 ghost use Rattle.memory.specs.Views.{room};
 ghost use Rattle.std.proofs.Common.{arith};
@@ -28,8 +29,8 @@ pub struct Router<L: HallMemory, R: HallMemory> {
     // the side that owes each reply in transit, the first one first
     order: Queue<Side, 32>,
     ghost within: { bit ≤ 31 },
-    ghost few: { length order ≤ room },
-    ghost tied: { Tied order (L.HallMemory.view left) (R.HallMemory.view right) },
+    ghost few: { length (items order) ≤ room },
+    ghost tied: { Tied (items order) (L.HallMemory.view left) (R.HallMemory.view right) },
 }
 
 impl<L: HallMemory, R: HallMemory> Router<L, R> {
@@ -49,8 +50,8 @@ impl<L: HallMemory, R: HallMemory> Router<L, R> {
     // The router over these two memories. The check was passed before.
     pub fn new(left: L, right: R, bit: u32) -> Router<L, R>
         requires { router_check (L.HallMemory.view left) (R.HallMemory.view right) bit ≡ Ok tt }
-        ensures view { router_view result.bit result.order (L.HallMemory.view result.left) (R.HallMemory.view result.right) ≡ router_view bit [] (L.HallMemory.view left) (R.HallMemory.view right) }
-        ensures lies { OneSide bit (router_view result.bit result.order) }
+        ensures view { router_view result.bit (items result.order) (L.HallMemory.view result.left) (R.HallMemory.view result.right) ≡ router_view bit [] (L.HallMemory.view left) (R.HallMemory.view right) }
+        ensures lies { OneSide bit (router_view result.bit (items result.order)) }
     {
         Router {
             left,
@@ -73,8 +74,8 @@ impl<L: HallMemory, R: HallMemory> Router<L, R> {
 
 // Notes that this side owes the reply of a request, if it wants one, unless no more replies may be in transit.
 fn owe(order: &mut Queue<Side, 32>, side: Side, request: Request) -> Result<(), Full>
-    ensures answer { result ≡ owing request order.old }
-    ensures holds { order.new ≡ (if is_ok result then order_after request side order.old else order.old) }
+    ensures answer { result ≡ owing request (items order.old) }
+    ensures holds { items order.new ≡ (if is_ok result then order_after request side (items order.old) else items order.old) }
 {
     if request.action.wants_reply() {
         order.push(side)?;
@@ -84,7 +85,7 @@ fn owe(order: &mut Queue<Side, 32>, side: Side, request: Request) -> Result<(), 
 
 // Notes what was taken from the side that owes the first reply.
 fn settle(order: &mut Queue<Side, 32>, taken: Taken)
-    ensures { order.new ≡ order_taken taken order.old }
+    ensures { items order.new ≡ order_taken taken (items order.old) }
 {
     if let Taken::Reply(_) = taken {
         order.pop();
@@ -92,7 +93,7 @@ fn settle(order: &mut Queue<Side, 32>, taken: Taken)
 }
 
 impl<L: HallMemory, R: HallMemory> HallMemory for Router<L, R> {
-    ghost view = { λ m. router_view m.bit m.order (L.HallMemory.view m.left) (R.HallMemory.view m.right) };
+    ghost view = { λ m. router_view m.bit (items m.order) (L.HallMemory.view m.left) (R.HallMemory.view m.right) };
 
     ghost bounded = { λ m.
         let left = L.HallMemory.bounded m.left in

@@ -10,9 +10,8 @@ use Rattle.program.specs.Pieces.{count_up}
 use Rattle.sheet.specs.Sheets.{filled_to, filled, count}
 use Rattle.machine.specs.Calls.{empty_window, lowest_free, reserve_state, release_state, put_state, fill_state, started, join_line, start_program, stop_state}
 use Rattle.operators.specs.Modes.{mode_wants_reply}
-use Rattle.machine.specs.declared.state.State.{State}
-use Rattle.machine.specs.Means.{Window, cleared, record_of, with_record, with_quiet, absent}
-use Rattle.machine.specs.Soundness.{Stands, new_state, times, finals, dues, places_due, still_due, Sound}
+use Rattle.machine.specs.Means.{Mean, Window, cleared, record_of, with_record, with_quiet, absent}
+use Rattle.machine.specs.Soundness.{Stands, new_mean, times, finals, dues, places_due, still_due, Sound}
 use Rattle.machine.specs.declared.record.Record.{Record}
 use Rattle.machine.specs.declared.record.Stored.{Stored}
 use Rattle.machine.proofs.KeptCounts.{none_counted, times_append, times_here, times_other, channels_append}
@@ -38,10 +37,10 @@ clear_stands reserved w long = record {
 empty_long : length empty_window ≡ 256
 empty_long = length-replicate {A = Option ℕ} 256 None
 
-pub sound_new : (v : View) → v.transit ≡ [] → Sound new_state v
+pub sound_new : (v : View) → v.transit ≡ [] → Sound new_mean v
 sound_new v none = record {
   wide = length-replicate 16 (cleared false empty_window);
-  channels = λ c low. channel_from new_state c (cleared false empty_window) 0 0 0 [] (get_or-replicate 16 c (cleared false empty_window) absent low) refl refl refl refl
+  channels = λ c low. channel_from new_mean c (cleared false empty_window) 0 0 0 [] (get_or-replicate 16 c (cleared false empty_window) absent low) refl refl refl refl
       (clear_stands false empty_window empty_long);
   singles_fit = tt;
   blocks_fit = tt;
@@ -51,7 +50,7 @@ sound_new v none = record {
   tied = ap (λ (l : List (Option ℕ)). length l) none;
 }
 
-pub sound_put : (m : State) (v : View) (c p w : ℕ) → Sound m v → c < 16 → Sound (put_state m c p w) v
+pub sound_put : (m : Mean) (v : View) (c p w : ℕ) → Sound m v → c < 16 → Sound (put_state m c p w) v
 sound_put m v c p w sound low =
     let h = (sound.channels c low) in
     replaced m v c _ sound low (remarked (record_of m c) _ _ _ _ _ _ (set (record_of m c).window p (Some w)) (length-set _ p (Some w) ∙ h.window) h)
@@ -61,7 +60,7 @@ unfolding filled_to
 length_filled zero bytes window = refl
 length_filled (suc k) bytes window = length-set _ _ _ ∙ length_filled k bytes window
 
-pub sound_fill : (m : State) (v : View) (c : ℕ) (bytes : List ℕ) → Sound m v → c < 16 → Sound (fill_state m c bytes) v
+pub sound_fill : (m : Mean) (v : View) (c : ℕ) (bytes : List ℕ) → Sound m v → c < 16 → Sound (fill_state m c bytes) v
 sound_fill m v c bytes sound low =
     let h = (sound.channels c low) in
     replaced m v c _ sound low (remarked (record_of m c) _ _ _ _ _ _ (filled bytes (record_of m c).window) (length_filled (count bytes) bytes _ ∙ h.window) h)
@@ -73,14 +72,14 @@ idle r s b f ps h rests =
     let due : still_due r ≡ 0 = ap (λ (x : Bool). cond (x && mode_wants_reply r.program.mode) (r.counts.sent - r.counts.landed) 0) rests in
     (omega arith, omega arith, omega arith, h.due ∙ ap (λ (n : ℕ). count_up n (r.program.first + r.counts.landed)) due ∙ sym (none_counted _))
 
-cleared_idle : (m : State) (v : View) (c : ℕ) (reserved : Bool) (w : Window) → Sound m v → c < 16 → (record_of m c).flags.running ≡ false → length w ≡ 256
+cleared_idle : (m : Mean) (v : View) (c : ℕ) (reserved : Bool) (w : Window) → Sound m v → c < 16 → (record_of m c).flags.running ≡ false → length w ≡ 256
     → Sound (with_record m c (cleared reserved w)) v
 cleared_idle m v c reserved w sound low rests long =
     let at = idle _ _ _ _ _ ((sound.channels c low)) rests in
     replaced m v c (cleared reserved w) sound low
     (same_stands _ (cleared reserved w) _ _ _ 0 0 0 _ [] refl at.0 at.1 at.2 at.3 (clear_stands reserved w long))
 
-pub sound_release : (m : State) (v : View) (c : ℕ) → Sound m v → c < 16 → (record_of m c).flags.running ≡ false → Sound (release_state m c) v
+pub sound_release : (m : Mean) (v : View) (c : ℕ) → Sound m v → c < 16 → (record_of m c).flags.running ≡ false → Sound (release_state m c) v
 sound_release m v c sound low rests = cleared_idle m v c false (record_of m c).window sound low rests (sound.channels c low).window
 
 -- the lowest free channel is one of them, and free
@@ -98,11 +97,11 @@ lowest_free_is (r ∷ rs) =
     let rest = lowest_free_is rs in
     cond_both r.flags.reserved _ _ (Free (r ∷ rs)) (λ _. free_later r rs (lowest_free rs) rest) (λ free. (omega arith, free))
 
-pub free_rests : (m : State) (v : View) (c : ℕ) → Sound m v → c < 16 → (record_of m c).flags.reserved ≡ false → (record_of m c).flags.running ≡ false
+pub free_rests : (m : Mean) (v : View) (c : ℕ) → Sound m v → c < 16 → (record_of m c).flags.reserved ≡ false → (record_of m c).flags.running ≡ false
 free_rests m v c sound low free =
     ⊎_elim (λ runs. absurd (both_ways _ free ((sound.channels c low).held runs))) (λ rests. rests) (cases_Bool (record_of m c).flags.running)
 
-pub sound_reserve : (m : State) (v : View) → Sound m v → Sound (reserve_state m) v
+pub sound_reserve : (m : Mean) (v : View) → Sound m v → Sound (reserve_state m) v
 sound_reserve m v sound = go (lowest_free m.records) (lowest_free_is m.records)
   where
     go : (o : Option ℕ) → Free m.records o → Sound (elim o [ None ↦ m | Some c ↦ with_record m c (cleared true empty_window) ]) v
@@ -111,12 +110,12 @@ sound_reserve m v sound = go (lowest_free m.records) (lowest_free_is m.records)
         let low : c < 16 = omega (arith, h.0, sound.wide) in
         cleared_idle m v c true empty_window sound low (free_rests m v c sound low h.1) empty_long
 
-pub sound_stop : (m : State) (v : View) (c : ℕ) → Sound m v → c < 16 → Sound (stop_state m c) v
+pub sound_stop : (m : Mean) (v : View) (c : ℕ) → Sound m v → c < 16 → Sound (stop_state m c) v
 sound_stop m v c sound low =
     let h = (sound.channels c low) in
     replaced m v c _ sound low (remarked (record_of m c) _ _ _ _ (record_of m c).flags.error true (record_of m c).window h.window h)
 
-pub sound_quiet : (m : State) (v : View) (quiet : Bool) → Sound m v → Sound (with_quiet m quiet) v
+pub sound_quiet : (m : Mean) (v : View) (quiet : Bool) → Sound m v → Sound (with_quiet m quiet) v
 sound_quiet m v quiet sound = record {
   wide = sound.wide;
   channels = λ c low. channel_from (with_quiet m quiet) c _ _ _ _ _ refl refl refl refl refl ((sound.channels c low));
@@ -148,7 +147,7 @@ started_stands p w s b long once singles blocks ordered within one_place =
       due = none_counted (p.first + 0) ∙ ap (λ (n : ℕ). count_up n (p.first + 0)) (sym none);
     }
 
-pub sound_start : (m : State) (v : View) (c : ℕ) (p : Stored) → Sound m v → c < 16 → (record_of m c).flags.running ≡ false → p.first ≤ p.last → p.last < 256
+pub sound_start : (m : Mean) (v : View) (c : ℕ) (p : Stored) → Sound m v → c < 16 → (record_of m c).flags.running ≡ false → p.first ≤ p.last → p.last < 256
     → (p.single ≡ true → p.first ≡ p.last) → Sound (start_program m c p) v
 sound_start m v c p sound low rests ordered within one_place =
     ⊎_elim (λ single. subst (λ (b : Bool). Sound (join_line b c (with_record m c (started p (record_of m c).window))) v) (sym single) (to_singles single))

@@ -4,8 +4,7 @@ use Rattle.std.proofs.Common.{◌≡◌, ℕ, ◌<◌, ◌≤◌, Bool, ◌≢�
 use Rattle.std.proofs.lemmas.List.{get_or-set_same, get_or-set_other, length-set}
 use Rattle.std.proofs.lemmas.Bool.{cases_eq}
 use Rattle.memory.specs.Views.{View}
-use Rattle.machine.specs.declared.state.State.{State}
-use Rattle.machine.specs.Means.{Window, record_of, with_record, absent}
+use Rattle.machine.specs.Means.{Mean, Window, record_of, with_record, absent}
 use Rattle.machine.specs.Soundness.{times, finals, dues, places_due, FinalLast, ChannelsFit, PiecesFit, Stands, ChannelSound, Sound}
 use Rattle.machine.specs.declared.record.Record.{Record}
 
@@ -16,19 +15,19 @@ same_stands q r t c g s b f qs ps er es eb ef ep h =
     (subst (λ (x : ℕ). Stands r s x g qs) (sym eb)
     (subst (λ (x : ℕ). Stands r s b x qs) (sym ef) (subst (λ (x : List ℕ). Stands r s b f x) (sym ep) h))))
 
-pub channel_from : (m : State) (c : ℕ) (r : Record) (s b f : ℕ) (ps : List ℕ) → record_of m c ≡ r → times c m.singles ≡ s → times c m.blocks ≡ b
+pub channel_from : (m : Mean) (c : ℕ) (r : Record) (s b f : ℕ) (ps : List ℕ) → record_of m c ≡ r → times c m.singles ≡ s → times c m.blocks ≡ b
     → finals c m.flight ≡ f → places_due c (dues m.flight) ≡ ps → Stands r s b f ps → ChannelSound m c
 channel_from m c r s b f ps er es eb ef ep h = same_stands _ r _ _ _ s b f _ ps er es eb ef ep h
 
 -- where a channel stands is the same in both
-pub record Alike (m n : State) (d : ℕ) : Type 0 where
+pub record Alike (m n : Mean) (d : ℕ) : Type 0 where
   pub singles : times d n.singles ≡ times d m.singles
   pub blocks : times d n.blocks ≡ times d m.blocks
   pub finals : finals d n.flight ≡ finals d m.flight
   pub places : places_due d (dues n.flight) ≡ places_due d (dues m.flight)
 
 -- what the lines and the flight are asked as a whole
-pub record Whole (m : State) (v : View) : Type 0 where
+pub record Whole (m : Mean) (v : View) : Type 0 where
   pub singles_fit : ChannelsFit m.singles
   pub blocks_fit : ChannelsFit m.blocks
   pub pieces_fit : PiecesFit m.flight
@@ -37,7 +36,7 @@ pub record Whole (m : State) (v : View) : Type 0 where
   pub tied : length v.transit ≡ length (dues m.flight)
 
 -- one channel changed, and the others stand as they did
-pub changed : (m n : State) (v w : View) (c : ℕ) (r : Record) (s b f : ℕ) (ps : List ℕ) → Sound m v → c < 16 → n.records ≡ set m.records c r
+pub changed : (m n : Mean) (v w : View) (c : ℕ) (r : Record) (s b f : ℕ) (ps : List ℕ) → Sound m v → c < 16 → n.records ≡ set m.records c r
     → times c n.singles ≡ s → times c n.blocks ≡ b → finals c n.flight ≡ f → places_due c (dues n.flight) ≡ ps → Stands r s b f ps
     → ((d : ℕ) → d ≢ c → Alike m n d) → Whole n w → Sound n w
 changed m n v w c r s b f ps sound low er es eb ef ep h others whole = record {
@@ -58,7 +57,7 @@ changed m n v w c r s b f ps sound low er es eb ef ep h others whole = record {
   tied = whole.tied;
 }
 
-pub replaced : (m : State) (v : View) (c : ℕ) (r : Record) → Sound m v → c < 16
+pub replaced : (m : Mean) (v : View) (c : ℕ) (r : Record) → Sound m v → c < 16
     → Stands r (times c m.singles) (times c m.blocks) (finals c m.flight) (places_due c (dues m.flight)) → Sound (with_record m c r) v
 replaced m v c r sound low h =
     changed m (with_record m c r) v v c r _ _ _ _ sound low refl refl refl refl refl h (λ d apart. record { singles = refl; blocks = refl; finals = refl; places = refl })

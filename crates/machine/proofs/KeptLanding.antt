@@ -6,8 +6,7 @@ use Rattle.std.proofs.lemmas.Bool.{cases_Bool, cond_both, cond-true, cond-false,
 use Rattle.std.proofs.lemmas.Bool.Decides.{nat_tests}
 use Rattle.memory.specs.Views.{View}
 use Rattle.program.specs.Pieces.{count_up}
-use Rattle.machine.specs.declared.state.State.{State}
-use Rattle.machine.specs.Means.{record_of}
+use Rattle.machine.specs.Means.{Mean, record_of}
 use Rattle.machine.specs.Soundness.{Stands, times, finals, Due, due_from, dues, places_due, still_due, FinalLast, PiecesFit, Sound}
 use Rattle.operators.specs.Modes.{mode_wants_reply}
 use Rattle.machine.specs.Turns.{landed_record, flight_after, land_piece}
@@ -126,7 +125,7 @@ landed_stands p reply r s b f g places h count last =
     goes_on runs e = grind (arith, nat_tests)
 
 -- what a flight that is not empty shows: a piece of a channel below 16, a reply in transit, and where that reply lands
-pub record LandsAt (m : State) (v : View) (p : Piece) (ps : List Piece) : Type 0 where
+pub record LandsAt (m : Mean) (v : View) (p : Piece) (ps : List Piece) : Type 0 where
   pub low : p.channel.0 < 16
   pub taken : 0 < length v.transit
   pub stands_so : Stands (record_of m p.channel.0) (times p.channel.0 m.singles) (times p.channel.0 m.blocks) (finals p.channel.0 (p ∷ ps))
@@ -143,7 +142,7 @@ places_here p ps k e = ap (places_due p.channel.0) (dues_before p ps k e) ∙ co
 places_there : (d : ℕ) (p : Piece) (ps : List Piece) (k : ℕ) → p.due ≡ suc k → d ≢ p.channel.0 → places_due d (dues (p ∷ ps)) ≡ places_due d (later p ps k)
 places_there d p ps k e apart = ap (places_due d) (dues_before p ps k e) ∙ cond-false _ _ _ (ne_eqb p.channel.0 d (λ same. apart (sym same)))
 
-pub lands_at : (m : State) (v : View) (p : Piece) (ps : List Piece) → Sound m v → m.flight ≡ p ∷ ps → LandsAt m v p ps
+pub lands_at : (m : Mean) (v : View) (p : Piece) (ps : List Piece) → Sound m v → m.flight ≡ p ∷ ps → LandsAt m v p ps
 lands_at m v p ps sound same =
     let fit : PiecesFit (p ∷ ps) = subst PiecesFit same sound.pieces_fit in
     let low : p.channel.0 < 16 = fit.0 in
@@ -161,10 +160,10 @@ lands_at m v p ps sound same =
     }
 
 -- take never answers that nothing is in transit
-pub always_taken : (m : State) (v : View) (p : Piece) (ps : List Piece) → Sound m v → m.flight ≡ p ∷ ps → 0 < length v.transit
+pub always_taken : (m : Mean) (v : View) (p : Piece) (ps : List Piece) → Sound m v → m.flight ≡ p ∷ ps → 0 < length v.transit
 always_taken m v p ps sound same = (lands_at m v p ps sound same).taken
 
-pub sound_land : (m : State) (v w : View) (p : Piece) (ps : List Piece) (reply : Option ℕ) → Sound m v → m.flight ≡ p ∷ ps → v.transit ≡ reply ∷ w.transit
+pub sound_land : (m : Mean) (v w : View) (p : Piece) (ps : List Piece) (reply : Option ℕ) → Sound m v → m.flight ≡ p ∷ ps → v.transit ≡ reply ∷ w.transit
     → Sound (land_piece m p ps reply) w
 sound_land m v w p ps reply sound same took =
     changed m (land_piece m p ps reply) v w p.channel.0 (landed_record p reply (record_of m p.channel.0)) _ _ _ _ sound low refl refl refl refl

@@ -5,8 +5,7 @@ use Rattle.std.proofs.lemmas.List.{length-append}
 use Rattle.std.proofs.lemmas.Bool.{cases_eq, ne_eqb, eq-eqb}
 use Rattle.memory.specs.Views.{View}
 use Rattle.numbers.specs.declared.channel.Channel.{Channel}
-use Rattle.machine.specs.declared.state.State.{State}
-use Rattle.machine.specs.Means.{record_of}
+use Rattle.machine.specs.Means.{Mean, record_of}
 use Rattle.machine.specs.Soundness.{times, finals, ChannelsFit, Sound}
 use Rattle.machine.proofs.KeptCounts.{times_append, channels_append}
 
@@ -72,20 +71,20 @@ bool_small true = omega arith
 bool_small false = omega arith
 
 -- a channel stands at most once in both lines together
-pub stands_once : (m : State) (v : View) → Sound m v → (d : ℕ) → d < 16 → times d (m.singles ++ m.blocks) ≤ 1
+pub stands_once : (m : Mean) (v : View) → Sound m v → (d : ℕ) → d < 16 → times d (m.singles ++ m.blocks) ≤ 1
 stands_once m v sound d low =
     let h : times d m.singles + times d m.blocks + finals d m.flight ≡ bool_byte (record_of m d).flags.running = (sound.channels d low).placed in
     let both = times_append d m.singles m.blocks in
     let few = bool_small (record_of m d).flags.running in
     omega (arith, h, both, few)
 
-pub lines_most : (m : State) (v : View) → Sound m v → length m.singles + length m.blocks ≤ 16
+pub lines_most : (m : Mean) (v : View) → Sound m v → length m.singles + length m.blocks ≤ 16
 lines_most m v sound =
     let long = total_line 16 (m.singles ++ m.blocks) refl (channels_append _ _ sound.singles_fit sound.blocks_fit) in
     let most = total_most 16 (λ d. times d (m.singles ++ m.blocks)) (stands_once m v sound) in
     omega (arith, long, most, length-append m.singles m.blocks)
 
-pub lines_room : (m : State) (v : View) (c : ℕ) → Sound m v → c < 16 → (record_of m c).flags.running ≡ false → length m.singles + length m.blocks < 16
+pub lines_room : (m : Mean) (v : View) (c : ℕ) → Sound m v → c < 16 → (record_of m c).flags.running ≡ false → length m.singles + length m.blocks < 16
 lines_room m v c sound low rests =
     let long = total_line 16 (m.singles ++ m.blocks) refl (channels_append _ _ sound.singles_fit sound.blocks_fit) in
     let placed : times c m.singles + times c m.blocks + finals c m.flight ≡ 0 = (sound.channels c low).placed ∙ ap bool_byte rests in
@@ -93,5 +92,5 @@ lines_room m v c sound low rests =
     let room = total_room 16 c (λ d. times d (m.singles ++ m.blocks)) (stands_once m v sound) low none in
     omega (arith, long, room, length-append m.singles m.blocks)
 
-pub line_room : (m : State) (v : View) (c : ℕ) → Sound m v → c < 16 → (record_of m c).flags.running ≡ false → (length m.singles < 16) × (length m.blocks < 16)
+pub line_room : (m : Mean) (v : View) (c : ℕ) → Sound m v → c < 16 → (record_of m c).flags.running ≡ false → (length m.singles < 16) × (length m.blocks < 16)
 line_room m v c sound low rests = let room = lines_room m v c sound low rests in (omega arith, omega arith)

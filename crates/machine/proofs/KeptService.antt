@@ -14,8 +14,7 @@ use Rattle.operators.specs.Modes.{sending, wants_reply, mode_wants_reply}
 use Rattle.operators.specs.declared.mode.Mode.{Mode}
 use Rattle.operators.specs.declared.mode.Mode.TheVariants.{Load, Store, Mp, Sync}
 use Rattle.program.specs.Pieces.{count_up, span_len}
-use Rattle.machine.specs.declared.state.State.{State}
-use Rattle.machine.specs.Means.{record_of}
+use Rattle.machine.specs.Means.{Mean, record_of}
 use Rattle.machine.specs.Soundness.{Stands, times, finals, Due, due_from, dues, places_due, still_due, FinalLast, ChannelsFit, PiecesFit, Sound}
 use Rattle.machine.specs.Turns.{chosen, serviced, next_piece, final, request_at, requests_from, requests, served_record, rest, serve, SentAll}
 use Rattle.machine.specs.declared.piece.Piece.{Piece}
@@ -232,7 +231,7 @@ sent_transit r (suc n) p v w sent =
     sum false a b c k e f = omega arith
 
 -- no request of a piece is refused: before it at most 24 replies are in transit, and it has at most eight
-pub never_refused : (m : State) (v u : View) (j : ℕ) (q : Request) → Sound m v → length m.flight < 4 → j < 8 → length u.transit ≤ length v.transit + j → refuses q u ≡ false
+pub never_refused : (m : Mean) (v u : View) (j : ℕ) (q : Request) → Sound m v → length m.flight < 4 → j < 8 → length u.transit ≤ length v.transit + j → refuses q u ≡ false
 never_refused m v u j q sound few early so_far =
     let due = few_due m.flight 3 sound.pieces_fit (omega (arith, few)) in
     let less : length u.transit < 32 = omega (arith, due, sound.tied, so_far, early) in
@@ -246,7 +245,7 @@ chosen_from (s ∷ ss) [] after c e = inl (let same : s ≡ c = cc in ap (λ (x 
 chosen_from (s ∷ ss) (b ∷ bs) true c e = inr (let same : b ≡ c = cc in ap (λ (x : Channel). x ∷ bs) same)
 chosen_from (s ∷ ss) (b ∷ bs) false c e = inl (let same : s ≡ c = cc in ap (λ (x : Channel). x ∷ ss) same)
 
-pub serviced_from : (m : State) (c : Channel) → serviced m ≡ Some c → (length m.flight < 4) × (chosen m.singles m.blocks m.after_single ≡ Some c)
+pub serviced_from : (m : Mean) (c : Channel) → serviced m ≡ Some c → (length m.flight < 4) × (chosen m.singles m.blocks m.after_single ≡ Some c)
 serviced_from m c =
     cond_both (ltb (length m.flight) 4) _ _ (λ (o : Option Channel). o ≡ Some c → (length m.flight < 4) × (chosen m.singles m.blocks m.after_single ≡ Some c))
     (λ few e. (ltb-true _ _ few, e))
@@ -257,7 +256,7 @@ abbrev pub sent_piece : Channel → Record → Piece
 sent_piece c r = record { channel = c; next = record { 0 = (next_piece r).from }; due = span_len (next_piece r); last = final r }
 
 -- the channel leaves its line, or goes to the end of it; xs and ys are the lines after
-serve_lines : (m : State) (v w : View) (c : Channel) (xs ys : List Channel) → Sound m v → length m.flight < 4 → c.0 < 16
+serve_lines : (m : Mean) (v w : View) (c : Channel) (xs ys : List Channel) → Sound m v → length m.flight < 4 → c.0 < 16
     → 0 < times c.0 m.singles + times c.0 m.blocks
     → (serve m c (record_of m c.0)).singles ≡ xs → (serve m c (record_of m c.0)).blocks ≡ ys
     → times c.0 xs + times c.0 ys + bool_byte (final (record_of m c.0)) ≡ times c.0 m.singles + times c.0 m.blocks
@@ -331,7 +330,7 @@ fit_requeued : (fin : Bool) (c : Channel) (l : List Channel) → c.0 < 16 → Ch
 fit_requeued true c l low fit = fit
 fit_requeued false c l low fit = channels_append l (c ∷ []) fit (low, tt)
 
-serve_single : (m : State) (v w : View) (c : Channel) → Sound m v → length m.flight < 4 → m.singles ≡ c ∷ rest m.singles
+serve_single : (m : Mean) (v w : View) (c : Channel) → Sound m v → length m.flight < 4 → m.singles ≡ c ∷ rest m.singles
     → SentAll (requests (record_of m c.0)) v w → Sound (serve m c (record_of m c.0)) w
 serve_single m v w c sound few e sent =
     let fit : ChannelsFit (c ∷ rest m.singles) = subst ChannelsFit e sound.singles_fit in
@@ -344,7 +343,7 @@ serve_single m v w c sound few e sent =
     serve_lines m v w c (rest m.singles) m.blocks sound few low waits (cond-true _ _ _ single) (cond-true _ _ _ single)
     (omega (arith, head, fin)) (λ _. some) (λ h. h) (λ d apart. (times_beside d c m.singles e apart, refl)) fit.1 sound.blocks_fit sent
 
-serve_block : (m : State) (v w : View) (c : Channel) → Sound m v → length m.flight < 4 → m.blocks ≡ c ∷ rest m.blocks
+serve_block : (m : Mean) (v w : View) (c : Channel) → Sound m v → length m.flight < 4 → m.blocks ≡ c ∷ rest m.blocks
     → SentAll (requests (record_of m c.0)) v w → Sound (serve m c (record_of m c.0)) w
 serve_block m v w c sound few e sent =
     let fit : ChannelsFit (c ∷ rest m.blocks) = subst ChannelsFit e sound.blocks_fit in
@@ -359,20 +358,20 @@ serve_block m v w c sound few e sent =
     (omega (arith, head, after)) (λ h. h) (λ _. some)
     (λ d apart. (refl, beside_requeued fin d c (rest m.blocks) apart ∙ times_beside d c m.blocks e apart)) sound.singles_fit (fit_requeued fin c _ low fit.1) sent
 
-pub sound_serve : (m : State) (v w : View) (c : Channel) → Sound m v → serviced m ≡ Some c → SentAll (requests (record_of m c.0)) v w → Sound (serve m c (record_of m c.0)) w
+pub sound_serve : (m : Mean) (v w : View) (c : Channel) → Sound m v → serviced m ≡ Some c → SentAll (requests (record_of m c.0)) v w → Sound (serve m c (record_of m c.0)) w
 sound_serve m v w c sound picked sent =
     let from = serviced_from m c picked in
     ⊎_elim (λ e. serve_single m v w c sound from.0 e sent) (λ e. serve_block m v w c sound from.0 e sent) (chosen_from m.singles m.blocks m.after_single c from.1)
 
 -- what the code needs of the channel that is served
-pub record Serves (m : State) (c : Channel) : Type 0 where
+pub record Serves (m : Mean) (c : Channel) : Type 0 where
   pub low : c.0 < 16
   pub room : length m.flight < 4
   pub waits : 0 < times c.0 m.singles + times c.0 m.blocks
   pub runs : (record_of m c.0).flags.running ≡ true
   pub piece : NextPiece (record_of m c.0)
 
-pub serves : (m : State) (v : View) (c : Channel) → Sound m v → serviced m ≡ Some c → Serves m c
+pub serves : (m : Mean) (v : View) (c : Channel) → Sound m v → serviced m ≡ Some c → Serves m c
 serves m v c sound picked =
     let from = serviced_from m c picked in
     ⊎_elim
@@ -385,11 +384,11 @@ serves m v c sound picked =
         let before = (sound.channels c.0 low) in
         record { low = low; room = few; waits = waits; runs = (waits_runs _ _ _ _ _ before waits).0; piece = piece_nonempty _ _ _ _ _ before waits }
 
-pub waiting_piece : (m : State) (v : View) (c : ℕ) → Sound m v → c < 16 → 0 < times c m.singles + times c m.blocks → NextPiece (record_of m c)
+pub waiting_piece : (m : Mean) (v : View) (c : ℕ) → Sound m v → c < 16 → 0 < times c m.singles + times c m.blocks → NextPiece (record_of m c)
 waiting_piece m v c sound low waits = piece_nonempty _ _ _ _ _ ((sound.channels c low)) waits
 
 -- after j requests of a piece the next is not refused
-pub next_sent : (m : State) (v u : View) (r : Record) (j p : ℕ) (q : Request) → Sound m v → length m.flight < 4 → j < 8 → SentAll (requests_from r j p) v u → refuses q u ≡ false
+pub next_sent : (m : Mean) (v u : View) (r : Record) (j p : ℕ) (q : Request) → Sound m v → length m.flight < 4 → j < 8 → SentAll (requests_from r j p) v u → refuses q u ≡ false
 next_sent m v u r j p q sound few early sent =
     let so_far = sent_transit r j p v u sent in
     let most : cond (mode_wants_reply r.program.mode) j 0 ≤ j = cond_both (mode_wants_reply r.program.mode) j 0 (λ (n : ℕ). n ≤ j) (λ _. omega arith) (λ _. omega arith) in

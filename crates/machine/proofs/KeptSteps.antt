@@ -21,8 +21,7 @@ use Rattle.program.specs.declared.layout.Words.{Words}
 use Rattle.program.specs.declared.range.PlaceRange.{PlaceRange}
 use Rattle.program.proofs.Ordered.{range_of_is}
 use Rattle.machine.specs.Calls.{Refused, unless_refused, check_channel, check_program, check_reserved, check_resting, release_refused, release_state, put_refused, put_state, fill_refused, fill_state, stored, start_refused, start_program, start_state, stop_refused, stop_state}
-use Rattle.machine.specs.declared.state.State.{State}
-use Rattle.machine.specs.Means.{record_of}
+use Rattle.machine.specs.Means.{Mean, record_of}
 use Rattle.machine.specs.Soundness.{Sound}
 use Rattle.machine.specs.Steps.{Call, reserve, release, put, fill, start, stop, quiet, wake, look, status, turn, Step, History, Run, begin, next}
 use Rattle.machine.specs.Turns.{landed, serviced, served, requested, SentAll, TakenOnce, Turns}
@@ -37,7 +36,7 @@ use Rattle.machine.proofs.KeptLanding.{sound_land}
 use Rattle.machine.proofs.KeptService.{sound_serve}
 
 -- only how many replies are in transit matters
-pub sound_transit : (m : State) (v w : View) → Sound m v → length w.transit ≡ length v.transit → Sound m w
+pub sound_transit : (m : Mean) (v w : View) → Sound m v → length w.transit ≡ length v.transit → Sound m w
 sound_transit m v w sound same = record {
   wide = sound.wide;
   channels = sound.channels;
@@ -49,21 +48,21 @@ sound_transit m v w sound same = record {
   tied = same ∙ sound.tied;
 }
 
-pub sound_landed : (m : State) (v w : View) (flight : List Piece) (t : Taken) → m.flight ≡ flight → TakenOnce flight t v w → Sound m v → Sound (landed m flight t) w
+pub sound_landed : (m : Mean) (v w : View) (flight : List Piece) (t : Taken) → m.flight ≡ flight → TakenOnce flight t v w → Sound m v → Sound (landed m flight t) w
 sound_landed m v w [] t same took sound = subst (Sound m) (sym took.1) sound
 sound_landed m v w (p ∷ ps) taken.Nothing same took sound =
     sound_transit m v w sound (ap (λ (l : List (Option ℕ)). length l) (took.transit.1 ∙ sym took.transit.0))
 sound_landed m v w (p ∷ ps) taken.NotYet same took sound = sound_transit m v w sound (ap (λ (l : List (Option ℕ)). length l) took.transit.1)
 sound_landed m v w (p ∷ ps) (taken.Reply reply) same took sound = sound_land m v w p ps reply sound same took.transit
 
-pub sound_served : (m : State) (v w : View) (o : Option Channel) → serviced m ≡ o → SentAll (requested m o) v w → Sound m v → Sound (served m o) w
+pub sound_served : (m : Mean) (v w : View) (o : Option Channel) → serviced m ≡ o → SentAll (requested m o) v w → Sound m v → Sound (served m o) w
 sound_served m v w None picked sent sound = subst (Sound m) (sym sent) sound
 sound_served m v w (Some c) picked sent sound = sound_serve m v w c sound picked sent
 
-pub sound_turn : (t : Turned) (m n : State) (v w : View) → Turns t m n v w → Sound m v → Sound n w
+pub sound_turn : (t : Turned) (m n : Mean) (v w : View) → Turns t m n v w → Sound m v → Sound n w
 sound_turn t m n v w turns sound =
     let between = landed m m.flight turns.answered in
-    subst (λ (x : State). Sound x w) (sym turns.after_is)
+    subst (λ (x : Mean). Sound x w) (sym turns.after_is)
     (sound_served between turns.between w (serviced between) refl turns.sends (sound_landed m v turns.between m.flight turns.answered refl turns.takes sound))
 
 -- what each check tells where nothing is refused
@@ -81,7 +80,7 @@ resting_ok r o =
     cond_both r.flags.running (Some fault.Running) o (λ (x : Refused). x ≡ None → r.flags.running ≡ false)
     (λ _ e. absurd (let z : ◌≡◌ {A = ℕ} 0 1 = cc in omega arith)) (λ rests _. rests)
 
-unless : (o : Refused) (m n : State) (v : View) → Sound m v → (o ≡ None → Sound n v) → Sound (unless_refused o m n) v
+unless : (o : Refused) (m n : Mean) (v : View) → Sound m v → (o ≡ None → Sound n v) → Sound (unless_refused o m n) v
 unless None m n v sound then = then refl
 unless (Some f) m n v sound then = sound
 
@@ -129,17 +128,17 @@ rest_read (Ok h) w low = places_read h (range_of h.first h.last) w refl low.0 lo
 pub program_read : (w : Words) → ReadWell (read_program w)
 program_read w = rest_read (read_header w.first) w (header_read w.first)
 
-sound_started : (m : State) (v : View) (c : ℕ) (r : Result Program ProgramFault) (then : Program → Refused) → ReadWell r → Sound m v → c < 16
+sound_started : (m : Mean) (v : View) (c : ℕ) (r : Result Program ProgramFault) (then : Program → Refused) → ReadWell r → Sound m v → c < 16
     → check_program r then ≡ None → ((p : Program) → then p ≡ None → (record_of m c).flags.running ≡ false)
     → Sound (elim r [ Ok p ↦ start_program m c (stored p) | Err f ↦ m ]) v
 sound_started m v c (Err f) then read sound low none rests = sound
 sound_started m v c (Ok p) then read sound low none rests = sound_start m v c (stored p) sound low (rests p none) read.ordered read.within read.one_place
 
 -- the state after and the memory after are these
-moved : (n x : State) (v w : View) → n ≡ x → w ≡ v → Sound x v → Sound n w
-moved n x v w en ew h = subst (λ (y : State). Sound y w) (sym en) (subst (Sound x) (sym ew) h)
+moved : (n x : Mean) (v w : View) → n ≡ x → w ≡ v → Sound x v → Sound n w
+moved n x v w en ew h = subst (λ (y : Mean). Sound y w) (sym en) (subst (Sound x) (sym ew) h)
 
-pub sound_step : (call : Call) (a : Answer) (m n : State) (v w : View) → Step call a m v n w → Sound m v → Sound n w
+pub sound_step : (call : Call) (a : Answer) (m n : Mean) (v w : View) → Step call a m v n w → Sound m v → Sound n w
 sound_step reserve a m n v w step sound = moved n _ v w step.1 step.2 (sound_reserve m v sound)
 sound_step (release c) a m n v w step sound =
     moved n _ v w step.1 step.2 (unless (release_refused m c) m (release_state m c) v sound (λ none.
@@ -160,6 +159,6 @@ sound_step (look c p) a m n v w step sound = moved n m v w step.1 step.2 sound
 sound_step (status c) a m n v w step sound = moved n m v w step.1 step.2 sound
 sound_step turn a m n v w step sound = sound_turn step.0 m n v w step.2 sound
 
-pub sound_run : (opening : State) (cells : View) {h : History} {m : State} {v : View} → Run opening cells h m v → Sound opening cells → Sound m v
+pub sound_run : (opening : Mean) (cells : View) {h : History} {m : Mean} {v : View} → Run opening cells h m v → Sound opening cells → Sound m v
 sound_run opening cells begin sound = sound
 sound_run opening cells (next {c = c} {a = a} run step) sound = sound_step c a _ _ _ _ step (sound_run opening cells run sound)

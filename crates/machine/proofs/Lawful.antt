@@ -2,8 +2,8 @@
 use Rattle.std.proofs.Common.{◌≡◌, [], sym, subst}
 use Rattle.memory.specs.Views.{View}
 use Rattle.machine.specs.Laws.{Law, Keeps, Opens}
-use Rattle.machine.specs.declared.state.State.{State}
-use Rattle.machine.specs.Soundness.{new_state}
+use Rattle.machine.specs.Means.{Mean}
+use Rattle.machine.specs.Soundness.{new_mean}
 use Rattle.machine.specs.Steps.{Call, Step, History, Run, begin, next, seen}
 use Rattle.machine.specs.declared.answer.Answer.{Answer}
 use Rattle.machine.proofs.Holding.{allotted}
@@ -19,7 +19,7 @@ module _ (cells : View) (nothing : cells.transit ≡ []) where
   sound : links.SoundRuns cells
   sound = links.sound_runs cells (sound_new cells nothing) sound_step
 
-  turn_links : (h : History) (m : State) (v : View) → Run new_state cells h m v → turns.Linked h m
+  turn_links : (h : History) (m : Mean) (v : View) → Run new_mean cells h m v → turns.Linked h m
   turn_links h m v run =
       let link = links.linked cells sound run in
       record {
@@ -38,7 +38,7 @@ grounds = record {
   links = λ {v} {h} {n} {w} run nothing. trace_links h n (links.linked v (sound v nothing) run);
 }
 
-pub lawful : (cells : View) (h : History) (m : State) (v : View) → cells.transit ≡ [] → Run new_state cells h m v → Law (seen new_state cells) h
+pub lawful : (cells : View) (h : History) (m : Mean) (v : View) → cells.transit ≡ [] → Run new_mean cells h m v → Law (seen new_mean cells) h
 lawful cells h m v nothing run =
     record {
       traced = trace.traced grounds run nothing;
@@ -47,7 +47,7 @@ lawful cells h m v nothing run =
       allotted = allotted cells (sound cells nothing) run;
     }
 
-pub keeps : (call : Call) (a : Answer) (m : State) (v : View) (n : State) (w : View) → Step call a m v n w → Keeps call a m v n w
+pub keeps : (call : Call) (a : Answer) (m : Mean) (v : View) (n : Mean) (w : View) → Step call a m v n w → Keeps call a m v n w
 keeps call a m v n w step =
     record {
       step = step;
@@ -55,6 +55,6 @@ keeps call a m v n w step =
       law = λ cells h nothing run. lawful cells _ n w nothing (next run step);
     }
 
-pub opens : (m : State) (v : View) → m ≡ new_state → v.transit ≡ [] → Opens m v
+pub opens : (m : Mean) (v : View) → m ≡ new_mean → v.transit ≡ [] → Opens m v
 opens m v new nothing =
-    record { run = subst (λ (n : State). Run new_state v [] n v) (sym new) begin; law = lawful v [] new_state v nothing begin }
+    record { run = subst (λ (n : Mean). Run new_mean v [] n v) (sym new) begin; law = lawful v [] new_mean v nothing begin }

@@ -13,9 +13,8 @@ use Rattle.program.specs.declared.layout.Words.{Words}
 use Rattle.machine.specs.Calls.{Refused, unless_refused, check_channel, check_program, check_reserved, check_resting, empty_refused, lowest_free, empty_window, release_refused, release_state, put_refused, put_state, fill_refused, fill_state, look_answer, stored, started, start_program, stop_refused, stop_state, status_answer}
 use Rattle.machine.specs.Histories.{now_seen, accepted, program_of, start_of, starts_on, starts, Starts, Begun, begun_by, begun, given_to, resets, releases_by, held, sent_in, sent_count, landed_in, landed_by, landed_count, sent_by, stops_by, stopped, touches_by, touched}
 use Rattle.machine.specs.Laws.{tells, word_of, word_told}
-use Rattle.machine.specs.declared.state.State.{State}
-use Rattle.machine.specs.Means.{Window, record_of, with_record, with_quiet, cleared, absent}
-use Rattle.machine.specs.Soundness.{new_state, Sound}
+use Rattle.machine.specs.Means.{Mean, Window, record_of, with_record, with_quiet, cleared, absent}
+use Rattle.machine.specs.Soundness.{new_mean, Sound}
 use Rattle.machine.specs.Steps.{Call, reserve, release, put, fill, start, stop, quiet, wake, look, status, turn, Step, Seen, seen, Event, History, Run, begin, next, done_unless, word_or, given_or}
 use Rattle.machine.specs.Turns.{landed, serviced, served, Turns, word_sent}
 use Rattle.machine.specs.declared.answer.Answer.TheVariants as answer
@@ -52,7 +51,7 @@ pub record Link (c : ℕ) (h : History) (r : Record) : Type 0 where
   pub begins : r.flags.running ≡ true → (b : Begun) × (begun c h ≡ Some b) × (touched c h ≡ false)
   pub alone : (b : Begun) → begun c h ≡ Some b → touched c h ≡ false → Untouched c b r
 
-abbrev pub Linked : History → State → Type 0
+abbrev pub Linked : History → Mean → Type 0
 Linked h m = (c : ℕ) → c < 16 → Link c h (record_of m c)
 
 no : {A : Type 0} → false ≡ true → A
@@ -140,7 +139,7 @@ beside call c a s plain other = go call (plain_answer c a plain).0 (plain_answer
     go turn n l g other = record { reset = refl; start = refl; stop = refl; touch = refl; sent = n; landed = l; given = g; release = refl }
 
 -- a call on the channel d that changes its record to r, unless it is refused
-link_change : (call : Call) (c d : ℕ) (h : History) (m n : State) (r : Record) (s : Seen) (o : Refused) → n.records ≡ set m.records d r → c < length m.records
+link_change : (call : Call) (c d : ℕ) (h : History) (m n : Mean) (r : Record) (s : Seen) (o : Refused) → n.records ≡ set m.records d r → c < length m.records
     → ((x : Refused) → (eqb d c && accepted (done_unless x)) ≡ false → Elsewhere call c (done_unless x))
     → (o ≡ None → d ≡ c → Link c (record { call = call; answer = answer.Done; after = s } ∷ h) r)
     → Link c h (record_of m c) → Link c (record { call = call; answer = done_unless o; after = s } ∷ h) (record_of (unless_refused o m n) c)
@@ -169,17 +168,17 @@ link_touch c e h r none touches rests sent landed reserved =
 accepted_here : (c d : ℕ) → d ≡ c → (eqb d c && true) ≡ true
 accepted_here c d same = grind (arith, tests)
 
-put_rests : (m : State) (d p : ℕ) → put_refused m d p ≡ None → (record_of m d).flags.running ≡ false
+put_rests : (m : Mean) (d p : ℕ) → put_refused m d p ≡ None → (record_of m d).flags.running ≡ false
 put_rests m d p none = grind (arith, tests)
 
-fill_rests : (m : State) (d : ℕ) (bytes : List ℕ) → fill_refused m d bytes ≡ None → (record_of m d).flags.running ≡ false
+fill_rests : (m : Mean) (d : ℕ) (bytes : List ℕ) → fill_refused m d bytes ≡ None → (record_of m d).flags.running ≡ false
 fill_rests m d bytes none = grind (arith, tests)
 
 -- the same record, by the number that the call gave
-link_at : (c d : ℕ) (h : History) (m : State) → d ≡ c → Link c h (record_of m c) → Link c h (record_of m d)
+link_at : (c d : ℕ) (h : History) (m : Mean) → d ≡ c → Link c h (record_of m c) → Link c h (record_of m d)
 link_at c d h m same link = subst (λ (k : ℕ). Link c h (record_of m k)) (sym same) link
 
-link_release : (c d : ℕ) (h : History) (m : State) (s : Seen) → c < length m.records → Link c h (record_of m c)
+link_release : (c d : ℕ) (h : History) (m : Mean) (s : Seen) → c < length m.records → Link c h (record_of m c)
     → Link c (record { call = release d; answer = done_unless (release_refused m d); after = s } ∷ h) (record_of (unless_refused (release_refused m d) m (release_state m d)) c)
 link_release c d h m s within link =
     link_change (release d) c d h m (release_state m d) (cleared false (record_of m d).window) s (release_refused m d) refl within (λ x e. e)
@@ -187,7 +186,7 @@ link_release c d h m s within link =
     link_touch c _ h _ refl set_back refl (sym (cond-true _ _ _ set_back)) (sym (cond-true _ _ _ set_back)) (sym (cond-true _ _ _ set_back)))
     link
 
-link_put : (c d p w : ℕ) (h : History) (m : State) (s : Seen) → c < length m.records → Link c h (record_of m c)
+link_put : (c d p w : ℕ) (h : History) (m : Mean) (s : Seen) → c < length m.records → Link c h (record_of m c)
     → Link c (record { call = put d p w; answer = done_unless (put_refused m d p); after = s } ∷ h) (record_of (unless_refused (put_refused m d p) m (put_state m d p w)) c)
 link_put c d p w h m s within link =
     link_change (put d p w) c d h m (put_state m d p w) _ s (put_refused m d p) refl within (λ x e. e)
@@ -195,7 +194,7 @@ link_put c d p w h m s within link =
     link_touch c _ h _ refl (accepted_here c d same) (put_rests m d p none) (omega (arith, was.sent)) (omega (arith, was.landed)) was.reserved)
     link
 
-link_fill : (c d : ℕ) (bytes : List ℕ) (h : History) (m : State) (s : Seen) → c < length m.records → Link c h (record_of m c)
+link_fill : (c d : ℕ) (bytes : List ℕ) (h : History) (m : Mean) (s : Seen) → c < length m.records → Link c h (record_of m c)
     → Link c (record { call = fill d bytes; answer = done_unless (fill_refused m d bytes); after = s } ∷ h) (record_of (unless_refused (fill_refused m d bytes) m (fill_state m d bytes)) c)
 link_fill c d bytes h m s within link =
     link_change (fill d bytes) c d h m (fill_state m d bytes) _ s (fill_refused m d bytes) refl within (λ x e. e)
@@ -203,7 +202,7 @@ link_fill c d bytes h m s within link =
     link_touch c _ h _ refl (accepted_here c d same) (fill_rests m d bytes none) (omega (arith, was.sent)) (omega (arith, was.landed)) was.reserved)
     link
 
-link_stop : (c d : ℕ) (h : History) (m : State) (s : Seen) → c < length m.records → Link c h (record_of m c)
+link_stop : (c d : ℕ) (h : History) (m : Mean) (s : Seen) → c < length m.records → Link c h (record_of m c)
     → Link c (record { call = stop d; answer = done_unless (stop_refused m d); after = s } ∷ h) (record_of (unless_refused (stop_refused m d) m (stop_state m d)) c)
 link_stop c d h m s within link =
     link_change (stop d) c d h m (stop_state m d) _ s (stop_refused m d) refl within (λ x e. e)
@@ -219,22 +218,22 @@ link_stop c d h m s within link =
     link
 
 -- start, by what its words say
-abbrev start_checked : State → ℕ → Result Program ProgramFault → Refused
+abbrev start_checked : Mean → ℕ → Result Program ProgramFault → Refused
 start_checked m c x =
     check_channel c (check_program x (λ p.
     check_reserved (record_of m c) (check_resting (record_of m c)
     (cond m.quiet (Some fault.Quiet) (empty_refused (stored p) (record_of m c).window)))))
 
-abbrev start_after : State → ℕ → Result Program ProgramFault → State
+abbrev start_after : Mean → ℕ → Result Program ProgramFault → Mean
 start_after m c x = elim x [ Ok p ↦ start_program m c (stored p) | Err f ↦ m ]
 
 abbrev program_in : Result Program ProgramFault → Option Stored
 program_in x = elim x [ Ok p ↦ Some (stored p) | Err f ↦ None ]
 
-bad_start : (m : State) (d : ℕ) (f : ProgramFault) → start_checked m d (Err f) ≡ None → ⊥
+bad_start : (m : Mean) (d : ℕ) (f : ProgramFault) → start_checked m d (Err f) ≡ None → ⊥
 bad_start m d f none = grind (arith, tests)
 
-start_reserved : (m : State) (d : ℕ) (p : Program) → start_checked m d (Ok p) ≡ None → (record_of m d).flags.reserved ≡ true
+start_reserved : (m : Mean) (d : ℕ) (p : Program) → start_checked m d (Ok p) ≡ None → (record_of m d).flags.reserved ≡ true
 start_reserved m d p none = grind (arith, tests)
 
 -- an accepted start of the channel
@@ -256,7 +255,7 @@ link_started c d w q h window s says same holds sees =
           subst (λ (x : Begun). Untouched c x (started q window)) same-begun (record { program = refl; reserved = refl; places = λ p below out. sees p });
     }
 
-link_start : (c d : ℕ) (w : Words) (h : History) (m : State) (v : View) (x : Result Program ProgramFault) → read_program w ≡ x → c < length m.records → Link c h (record_of m c)
+link_start : (c d : ℕ) (w : Words) (h : History) (m : Mean) (v : View) (x : Result Program ProgramFault) → read_program w ≡ x → c < length m.records → Link c h (record_of m c)
     → Link c (record { call = start d w; answer = done_unless (start_checked m d x); after = seen (unless_refused (start_checked m d x) m (start_after m d x)) v } ∷ h)
     (record_of (unless_refused (start_checked m d x) m (start_after m d x)) c)
 link_start c d w h m v (Ok p) reads within link =
@@ -296,7 +295,7 @@ lowest_free_is (r ∷ rs) (suc c) is = lowest_free_is rs c (free_later r.flags.r
 abbrev given_by : Option ℕ → Result Channel ChannelFault
 given_by o = elim o [ None ↦ Err fault.NoneFree | Some c ↦ Ok (record { 0 = c }) ]
 
-abbrev reserved_by : State → Option ℕ → State
+abbrev reserved_by : Mean → Option ℕ → Mean
 reserved_by m o = elim o [ None ↦ m | Some c ↦ with_record m c (cleared true empty_window) ]
 
 link_reserved : (c d : ℕ) (h : History) (window : Window) (r : Record) (s : Seen) → r.flags.reserved ≡ false → d ≡ c → Link c h r
@@ -311,7 +310,7 @@ link_reserved c d h window r s free same link =
       alone = λ b is left. no (sym free ∙ (link.alone b is left).reserved);
     }
 
-link_reserve : (c : ℕ) (h : History) (m : State) (s : Seen) (o : Option ℕ) → lowest_free m.records ≡ o → c < length m.records → Link c h (record_of m c)
+link_reserve : (c : ℕ) (h : History) (m : Mean) (s : Seen) (o : Option ℕ) → lowest_free m.records ≡ o → c < length m.records → Link c h (record_of m c)
     → Link c (record { call = reserve; answer = given_or (given_by o); after = s } ∷ h) (record_of (reserved_by m o) c)
 link_reserve c h m s None is within link = link_beside c _ h (record_of m c) (beside reserve c (answer.Refused fault.NoneFree) s tt refl) link
 link_reserve c h m s (Some d) is within link =
@@ -351,14 +350,14 @@ link_turn c t h r between after s lands sends link =
           };
     }
 
-link_turns : (c : ℕ) (t : Turned) (h : History) (m n : State) (v w : View) (s : Seen) → Sound m v → c < 16 → Turns t m n v w → Link c h (record_of m c)
+link_turns : (c : ℕ) (t : Turned) (h : History) (m n : Mean) (v w : View) (s : Seen) → Sound m v → c < 16 → Turns t m n v w → Link c h (record_of m c)
     → Link c (record { call = turn; answer = answer.Turned t; after = s } ∷ h) (record_of n c)
 link_turns c t h m n v w s sound below turns link =
     let mid = landed m m.flight turns.answered in
     let lands = (landed_record_is m v c m.flight turns.answered sound below refl).moves in
     let within : c < length mid.records = omega (arith, sound.wide, landed_wide m m.flight turns.answered) in
     let sends = served_record_is mid c (serviced mid) within in
-    subst (λ (x : State). Link c (record { call = turn; answer = answer.Turned t; after = s } ∷ h) (record_of x c)) (sym turns.after_is)
+    subst (λ (x : Mean). Link c (record { call = turn; answer = answer.Turned t; after = s } ∷ h) (record_of x c)) (sym turns.after_is)
     (link_turn c t h (record_of m c) (record_of mid c) (record_of (served mid (serviced mid)) c) s
     (subst (λ (x : Landing). Moves (record_of m c) (record_of mid c) 0 (landed_by c x)) (sym turns.landing_is) lands)
     (subst (λ (x : Option Service). Moves (record_of mid c) (record_of (served mid (serviced mid)) c) (sent_by c x) 0) (sym turns.service_is) sends)
@@ -367,10 +366,10 @@ link_turns c t h m n v w s sound below turns link =
 -- ONE STEP
 
 -- what is shown at an equal answer and state
-put_at : (Q : Answer → State → Type 0) (a b : Answer) (m n : State) → a ≡ b → m ≡ n → Q b n → Q a m
+put_at : (Q : Answer → Mean → Type 0) (a b : Answer) (m n : Mean) → a ≡ b → m ≡ n → Q b n → Q a m
 put_at Q a b m n same_answer same-state q = subst (λ (x : Answer). Q x m) (sym same_answer) (subst (Q b) (sym same-state) q)
 
-abbrev LinkAfter : ℕ → History → Call → View → Answer → State → Type 0
+abbrev LinkAfter : ℕ → History → Call → View → Answer → Mean → Type 0
 LinkAfter c h call w a n = Link c (record { call = call; answer = a; after = seen n w } ∷ h) (record_of n c)
 
 word_plain : (c : ℕ) (x : Result ℕ ChannelFault) → Plain c (word_or x)
@@ -378,12 +377,12 @@ word_plain c (Ok w) = tt
 word_plain c (Err f) = tt
 
 -- a call that leaves the records alone
-link_left : (call : Call) (c : ℕ) (h : History) (m n : State) (w : View) (a : Answer) → n.records ≡ m.records → Plain c a → Elsewhere call c a → Link c h (record_of m c) → LinkAfter c h call w a n
+link_left : (call : Call) (c : ℕ) (h : History) (m n : Mean) (w : View) (a : Answer) → n.records ≡ m.records → Plain c a → Elsewhere call c a → Link c h (record_of m c) → LinkAfter c h call w a n
 link_left call c h m n w a same plain other link =
     subst (Link c (record { call = call; answer = a; after = seen n w } ∷ h)) (ap (λ (l : List Record). get_or l c absent) (sym same))
     (link_beside c _ h (record_of m c) (beside call c a (seen n w) plain other) link)
 
-link_step : (call : Call) (c : ℕ) (h : History) (a : Answer) (m n : State) (v w : View) → Sound m v → c < 16 → c < length m.records → Step call a m v n w → Link c h (record_of m c)
+link_step : (call : Call) (c : ℕ) (h : History) (a : Answer) (m n : Mean) (v w : View) → Sound m v → c < 16 → c < length m.records → Step call a m v n w → Link c h (record_of m c)
     → LinkAfter c h call w a n
 link_step reserve c h a m n v w sound below within (ea, en, ew) link =
     put_at (LinkAfter c h reserve w) a _ n _ ea en (link_reserve c h m _ (lowest_free m.records) refl within link)
@@ -409,7 +408,7 @@ link_step turn c h a m n v w sound below within (t, ea, turns) link =
     subst (λ (x : Answer). LinkAfter c h turn w x n) (sym ea) (link_turns c t h m n v w _ sound below turns link)
 
 -- every step from a sound state keeps the history and the records tied
-pub linked_step : (call : Call) (h : History) (a : Answer) (m n : State) (v w : View) → Step call a m v n w → Sound m v → Linked h m
+pub linked_step : (call : Call) (h : History) (a : Answer) (m n : Mean) (v w : View) → Step call a m v n w → Sound m v → Linked h m
     → Linked (record { call = call; answer = a; after = seen n w } ∷ h) n
 linked_step call h a m n v w step sound linked c below =
     link_step call c h a m n v w sound below (omega (arith, sound.wide)) step (linked c below)
@@ -425,31 +424,31 @@ link_new c window =
       alone = λ b is left. absurd (let z : ◌≡◌ {A = ℕ} 0 1 = cc in omega arith);
     }
 
-pub linked_new : Linked [] new_state
+pub linked_new : Linked [] new_mean
 linked_new c below = subst (Link c []) (sym (get_or-replicate 16 c (cleared false empty_window) absent below)) (link_new c empty_window)
 
 -- every state of the runs from a new mover is sound
 abbrev pub SoundRuns : View → Type 0
-SoundRuns opening = (h : History) (m : State) (v : View) → Run new_state opening h m v → Sound m v
+SoundRuns opening = (h : History) (m : Mean) (v : View) → Run new_mean opening h m v → Sound m v
 
 -- as it is where every step keeps a sound state
 abbrev pub SoundSteps : Type 0
-SoundSteps = (call : Call) (a : Answer) (m n : State) (v w : View) → Step call a m v n w → Sound m v → Sound n w
+SoundSteps = (call : Call) (a : Answer) (m n : Mean) (v w : View) → Step call a m v n w → Sound m v → Sound n w
 
-run_sound : (opening : View) → Sound new_state opening → SoundSteps → {h : History} {m : State} {v : View} → Run new_state opening h m v → Sound m v
+run_sound : (opening : View) → Sound new_mean opening → SoundSteps → {h : History} {m : Mean} {v : View} → Run new_mean opening h m v → Sound m v
 run_sound opening new steps begin = new
 run_sound opening new steps (next {h} {m} {n} {v} {w} {c} {a} run step) = steps c a m n v w step (run_sound opening new steps run)
 
-pub sound_runs : (opening : View) → Sound new_state opening → SoundSteps → SoundRuns opening
+pub sound_runs : (opening : View) → Sound new_mean opening → SoundSteps → SoundRuns opening
 sound_runs opening new steps h m v run = run_sound opening new steps run
 
 -- over a run from a new mover, the history and the records are tied
-pub linked : (opening : View) → SoundRuns opening → {h : History} {m : State} {v : View} → Run new_state opening h m v → Linked h m
+pub linked : (opening : View) → SoundRuns opening → {h : History} {m : Mean} {v : View} → Run new_mean opening h m v → Linked h m
 linked opening sound begin = linked_new
 linked opening sound (next {h} {m} {n} {v} {w} {c} {a} run step) = linked_step c h a m n v w step (sound h m v run) (linked opening sound run)
 
 -- what is seen after the history of a run is what is seen of its state
-pub now_seen_is : {opened : State} {opening : View} {h : History} {m : State} {v : View} → Run opened opening h m v → now_seen (seen opened opening) h ≡ seen m v
+pub now_seen_is : {opened : Mean} {opening : View} {h : History} {m : Mean} {v : View} → Run opened opening h m v → now_seen (seen opened opening) h ≡ seen m v
 now_seen_is begin = refl
 now_seen_is (next run step) = refl
 

@@ -9,8 +9,7 @@ use Rattle.memory.specs.declared.request.Taken.{Taken}
 use Rattle.numbers.specs.declared.channel.Channel.{Channel}
 use Rattle.program.specs.Pieces.{count_up, span_len}
 use Rattle.machine.specs.Histories.{landed_by, sent_by}
-use Rattle.machine.specs.declared.state.State.{State}
-use Rattle.machine.specs.Means.{record_of, absent}
+use Rattle.machine.specs.Means.{Mean, record_of, absent}
 use Rattle.machine.specs.Soundness.{Sound, ChannelSound, Due, due_from, dues, places_due, PiecesFit, still_due, times, ChannelsFit}
 use Rattle.operators.specs.Modes.{mode_wants_reply}
 use Rattle.machine.specs.Turns.{landed_record, land_piece, landed, landing, serviced, next_piece, served_record, served, service, chosen}
@@ -18,11 +17,11 @@ use Rattle.machine.specs.declared.piece.Piece.{Piece}
 use Rattle.machine.specs.declared.record.Record.{Record}
 
 -- a record among those of a state, after the record of the channel d was changed
-pub record_here : (m n : State) (c d : ℕ) (r : Record) → n.records ≡ set m.records d r → c < length m.records → d ≡ c → record_of n c ≡ r
+pub record_here : (m n : Mean) (c d : ℕ) (r : Record) → n.records ≡ set m.records d r → c < length m.records → d ≡ c → record_of n c ≡ r
 record_here m n c d r set_is within same =
     ap (λ (l : List Record). get_or l c absent) (set_is ∙ ap (λ (k : ℕ). set m.records k r) same) ∙ get_or-set_same m.records c r absent within
 
-pub record_other : (m n : State) (c d : ℕ) (r : Record) → n.records ≡ set m.records d r → (d ≡ c → ⊥) → record_of n c ≡ record_of m c
+pub record_other : (m n : Mean) (c d : ℕ) (r : Record) → n.records ≡ set m.records d r → (d ≡ c → ⊥) → record_of n c ≡ record_of m c
 record_other m n c d r set_is other =
     let apart : c ≢ d = λ e. other (sym e) in
     ap (λ (l : List Record). get_or l c absent) set_is ∙ get_or-set_other m.records d c r absent apart
@@ -63,7 +62,7 @@ due_parts true true n some = (refl, refl, some)
 due_parts true false n some = absurd (omega arith)
 due_parts false replies n some = absurd (omega arith)
 
-lands_in : (m : State) (p : Piece) (rest : List Piece) → m.flight ≡ p ∷ rest → 1 ≤ p.due → ChannelSound m p.channel.0 → LandsAt (record_of m p.channel.0) p
+lands_in : (m : Mean) (p : Piece) (rest : List Piece) → m.flight ≡ p ∷ rest → 1 ≤ p.due → ChannelSound m p.channel.0 → LandsAt (record_of m p.channel.0) p
 lands_in m p rest is some sound =
     let r = record_of m p.channel.0 in
     let first = first_due_is p.due p.channel.0 p.next.0 (dues rest) some in
@@ -71,7 +70,7 @@ lands_in m p rest is some sound =
     let parts = due_parts r.flags.running (mode_wants_reply r.program.mode) (r.counts.sent - r.counts.landed) due.0 in
     record { at = due.1; running = parts.0; replies = parts.1; unlanded = let k = parts.2 in omega arith }
 
-pub lands_at : (m : State) (v : View) (p : Piece) (rest : List Piece) → Sound m v → m.flight ≡ p ∷ rest → (p.channel.0 < 16) × LandsAt (record_of m p.channel.0) p
+pub lands_at : (m : Mean) (v : View) (p : Piece) (rest : List Piece) → Sound m v → m.flight ≡ p ∷ rest → (p.channel.0 < 16) × LandsAt (record_of m p.channel.0) p
 lands_at m v p rest sound is =
     let fit = subst PiecesFit is sound.pieces_fit in
     (fit.0, lands_in m p rest is fit.1 (sound.channels p.channel.0 fit.0))
@@ -99,10 +98,10 @@ pub record Landed (before after : Record) (lands : ℕ) : Type 0 where
   pub moves : Moves before after 0 lands
   pub landed_sent : after.counts.landed ≤ after.counts.sent
 
-landed_same : (m : State) (v : View) (c : ℕ) → Sound m v → c < 16 → Landed (record_of m c) (record_of m c) 0
+landed_same : (m : Mean) (v : View) (c : ℕ) → Sound m v → c < 16 → Landed (record_of m c) (record_of m c) 0
 landed_same m v c sound below = record { moves = moves_none (record_of m c); landed_sent = (sound.channels c below).landed_sent }
 
-landed_piece : (m : State) (v : View) (c : ℕ) (p : Piece) (rest : List Piece) (reply : Option ℕ) → Sound m v → c < 16 → m.flight ≡ p ∷ rest
+landed_piece : (m : Mean) (v : View) (c : ℕ) (p : Piece) (rest : List Piece) (reply : Option ℕ) → Sound m v → c < 16 → m.flight ≡ p ∷ rest
     → Landed (record_of m c) (record_of (land_piece m p rest reply) c) (cond (eqb p.channel.0 c) 1 0)
 landed_piece m v c p rest reply sound below is =
     cond_both (eqb p.channel.0 c) 1 0 (Landed (record_of m c) (record_of (land_piece m p rest reply) c))
@@ -116,14 +115,14 @@ landed_piece m v c p rest reply sound below is =
     (subst (λ (k : ℕ). Landed (record_of m k) (landed_record p reply r) 1) here now))
     (λ apart. subst (λ (x : Record). Landed (record_of m c) x 0) (sym (record_other m (land_piece m p rest reply) c p.channel.0 _ refl (eqb-false _ _ apart))) (landed_same m v c sound below))
 
-pub landed_record_is : (m : State) (v : View) (c : ℕ) (flight : List Piece) (t : Taken) → Sound m v → c < 16 → m.flight ≡ flight
+pub landed_record_is : (m : Mean) (v : View) (c : ℕ) (flight : List Piece) (t : Taken) → Sound m v → c < 16 → m.flight ≡ flight
     → Landed (record_of m c) (record_of (landed m flight t) c) (landed_by c (landing flight t))
 landed_record_is m v c [] t sound below is = landed_same m v c sound below
 landed_record_is m v c (p ∷ rest) taken.Nothing sound below is = landed_same m v c sound below
 landed_record_is m v c (p ∷ rest) taken.NotYet sound below is = landed_same m v c sound below
 landed_record_is m v c (p ∷ rest) (taken.Reply reply) sound below is = landed_piece m v c p rest reply sound below is
 
-pub landed_wide : (m : State) (flight : List Piece) (t : Taken) → length (landed m flight t).records ≡ length m.records
+pub landed_wide : (m : Mean) (flight : List Piece) (t : Taken) → length (landed m flight t).records ≡ length m.records
 landed_wide m [] t = refl
 landed_wide m (p ∷ rest) taken.Nothing = refl
 landed_wide m (p ∷ rest) taken.NotYet = refl
@@ -141,7 +140,7 @@ moves_served r =
       places = λ p out. refl;
     }
 
-pub served_record_is : (m : State) (c : ℕ) (o : Option Channel) → c < length m.records → Moves (record_of m c) (record_of (served m o) c) (sent_by c (service m o)) 0
+pub served_record_is : (m : Mean) (c : ℕ) (o : Option Channel) → c < length m.records → Moves (record_of m c) (record_of (served m o) c) (sent_by c (service m o)) 0
 served_record_is m c None within = moves_none (record_of m c)
 served_record_is m c (Some d) within =
     cond_both (eqb d.0 c) (span_len (next_piece (record_of m d.0))) 0 (λ n. Moves (record_of m c) (record_of (served m (Some d)) c) n 0)
@@ -185,14 +184,14 @@ chosen_if true o d is = is
 chosen_if false o d is = absurd (no_channel is)
 
 -- a landing leaves the lines alone
-lines_kept : (m : State) (flight : List Piece) (t : Taken) → ((landed m flight t).singles ≡ m.singles) × ((landed m flight t).blocks ≡ m.blocks)
+lines_kept : (m : Mean) (flight : List Piece) (t : Taken) → ((landed m flight t).singles ≡ m.singles) × ((landed m flight t).blocks ≡ m.blocks)
 lines_kept m [] t = (refl, refl)
 lines_kept m (p ∷ rest) taken.Nothing = (refl, refl)
 lines_kept m (p ∷ rest) taken.NotYet = (refl, refl)
 lines_kept m (p ∷ rest) (taken.Reply reply) = (refl, refl)
 
 -- the channel that is served after the landing runs and has a request unsent
-pub record Serves (m : State) (d : ℕ) : Type 0 where
+pub record Serves (m : Mean) (d : ℕ) : Type 0 where
   pub below : d < 16
   pub running : (record_of m d).flags.running ≡ true
   pub unsent : (record_of m d).counts.sent ≤ (record_of m d).program.last - (record_of m d).program.first
@@ -201,7 +200,7 @@ some_running : (n : ℕ) (b : Bool) → 0 < n → n ≤ bool_byte b → b ≡ tr
 some_running n true some is = refl
 some_running n false some is = absurd (omega arith)
 
-pub serves : (m : State) (v : View) (flight : List Piece) (t : Taken) (d : Channel) → Sound m v → serviced (landed m flight t) ≡ Some d → Serves m d.0
+pub serves : (m : Mean) (v : View) (flight : List Piece) (t : Taken) (d : Channel) → Sound m v → serviced (landed m flight t) ≡ Some d → Serves m d.0
 serves m v flight t d sound is =
     let mid = landed m flight t in
     let kept = lines_kept m flight t in

@@ -2,15 +2,14 @@
 use Rattle.std.proofs.Common.{◌≡◌, ℕ, ◌+◌, ◌<◌, ◌≤◌, length, Some, sym, arith}
 use Rattle.memory.specs.Views.{View}
 use Rattle.numbers.specs.declared.channel.Channel.{Channel}
-use Rattle.machine.specs.declared.state.State.{State}
-use Rattle.machine.specs.Means.{record_of}
+use Rattle.machine.specs.Means.{Mean, record_of}
 use Rattle.machine.specs.Soundness.{Sound, dues}
 use Rattle.program.specs.Pieces.{span_len}
 use Rattle.machine.specs.Turns.{serviced, next_piece}
 use Rattle.machine.proofs.KeptCounts.{few_due}
 use Rattle.machine.proofs.KeptService.{serves}
 
-pub record Next (m : State) (v : View) (c : ℕ) : Type 0 where
+pub record Next (m : Mean) (v : View) (c : ℕ) : Type 0 where
   pub low : c < 16
   pub long : length (record_of m c).window ≡ 256
   pub unsent : (record_of m c).program.first + (record_of m c).counts.sent ≤ (record_of m c).program.last
@@ -20,7 +19,7 @@ pub record Next (m : State) (v : View) (c : ℕ) : Type 0 where
   pub flight : length m.flight < 4
   pub few : (record_of m c).counts.sent < 256
 
-pub next : (m : State) (v : View) (c : Channel) → Sound m v → Some c ≡ serviced m → Next m v c.0
+pub next : (m : Mean) (v : View) (c : Channel) → Sound m v → Some c ≡ serviced m → Next m v c.0
 next m v c sound chosen =
     let s = serves m v c sound (sym chosen) in
     let h = sound.channels c.0 s.low in

@@ -4,8 +4,7 @@ use Rattle.std.proofs.lemmas.Bool.Decides.{nat_tests}
 use Rattle.std.specs.List.{slice_get}
 use Rattle.memory.specs.Views.{View}
 use Rattle.program.specs.Pieces.{count_up}
-use Rattle.machine.specs.declared.state.State.{State}
-use Rattle.machine.specs.Means.{record_of}
+use Rattle.machine.specs.Means.{Mean, record_of}
 use Rattle.machine.specs.Soundness.{Sound, dues, due_from, places_due, still_due, PiecesFit}
 use Rattle.machine.specs.Turns.{rest}
 use Rattle.machine.specs.declared.piece.Piece.{Piece}
@@ -31,14 +30,14 @@ due_most : (r : Record) → still_due r ≤ r.counts.sent - r.counts.landed
 due_most r = grind (arith, nat_tests)
 
 -- what is known of the oldest piece
-pub record Oldest (m : State) (p : Piece) : Type 0 where
+pub record Oldest (m : Mean) (p : Piece) : Type 0 where
   pub low : p.channel.0 < 16
   pub long : length (record_of m p.channel.0).window ≡ 256
   pub few : (record_of m p.channel.0).counts.landed < 256
   pub some : 1 ≤ p.due
   pub within : p.next.0 + p.due ≤ 256
 
-pub oldest : (m : State) (v : View) (p : Piece) (ps : List Piece) → Sound m v → m.flight ≡ p ∷ ps → Oldest m p
+pub oldest : (m : Mean) (v : View) (p : Piece) (ps : List Piece) → Sound m v → m.flight ≡ p ∷ ps → Oldest m p
 oldest m v p ps sound head =
     let at = lands_at m v p ps sound head in
     let c = p.channel.0 in

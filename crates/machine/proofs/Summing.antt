@@ -20,9 +20,8 @@ use Rattle.program.specs.Pieces.{boundary, span_len}
 use Rattle.machine.specs.Calls.{Refused}
 use Rattle.machine.specs.Histories.{starts, Starts, Begun, begun_by, begun, sent_count, cell_at, Names}
 use Rattle.machine.specs.Laws.{Under, UnderBy, OnlyUnder, joins, word_of, words_from, words_of, words_by, words_in, words_sent, join_all, SameWords, Summed}
-use Rattle.machine.specs.declared.state.State.{State}
-use Rattle.machine.specs.Means.{record_of}
-use Rattle.machine.specs.Soundness.{new_state, Sound, ChannelSound}
+use Rattle.machine.specs.Means.{Mean, record_of}
+use Rattle.machine.specs.Soundness.{new_mean, Sound, ChannelSound}
 use Rattle.machine.specs.Steps.{Call, reserve, release, put, fill, start, stop, quiet, wake, look, status, turn, Step, Seen, seen, History, Run, begin, next, done_unless, word_or, given_or}
 use Rattle.machine.specs.Turns.{landed, serviced, next_piece, service, Turns, word_sent, request_at, requests_from, requests, requested, SentAll, TakenOnce}
 use Rattle.machine.specs.declared.answer.Answer.TheVariants as answer
@@ -131,7 +130,7 @@ piece_within : (r : Record) (k : ℕ) → r.program.first ≤ r.program.last →
 piece_within r k ordered unsent high = omega (arith, min-le_right (boundary (r.program.first + r.counts.sent)) r.program.last)
 
 -- the requests of one service leave the cell joined with the words that they sent to it
-service_joined : (o : Choice) (a : ℕ) → a < 2 ^ 32 → (h : History) (m mid : State) (v w : View) (d lands : ℕ) → OnlyUnder o a h
+service_joined : (o : Choice) (a : ℕ) → a < 2 ^ 32 → (h : History) (m mid : Mean) (v w : View) (d lands : ℕ) → OnlyUnder o a h
     → ChannelSound m d → Serves m d → Link d h (record_of m d) → Landed (record_of m d) (record_of mid d) lands
     → SentAll (requests (record_of mid d)) v w → w.cell a ≡ after o (words_of d (begun d h) a (span_len (next_piece (record_of mid d))) (sent_count d h)) (v.cell a)
 service_joined o a below h m mid v w d lands only sound serving link now sends =
@@ -161,7 +160,7 @@ taken_cell : (flight : List Piece) (t : Taken) (v w : View) (a : ℕ) → a < 2 
 taken_cell [] t v w a below (nothing, same) = ap (λ (x : View). x.cell a) same
 taken_cell (p ∷ ps) t v w a below takes = takes.cells a below
 
-served_joined : (o : Choice) (a : ℕ) → a < 2 ^ 32 → (h : History) (m : State) (v between w : View) (t : Taken) (d : Option Channel) → OnlyUnder o a h → Sound m v → Linked h m
+served_joined : (o : Choice) (a : ℕ) → a < 2 ^ 32 → (h : History) (m : Mean) (v between w : View) (t : Taken) (d : Option Channel) → OnlyUnder o a h → Sound m v → Linked h m
     → serviced (landed m m.flight t) ≡ d → SentAll (requested (landed m m.flight t) d) between w
     → w.cell a ≡ after o (words_by (service (landed m m.flight t) d) a h) (between.cell a)
 served_joined o a below h m v between w t None only sound linked is same = ap (λ (x : View). x.cell a) same ∙ mapped_same (between.cell a)
@@ -170,7 +169,7 @@ served_joined o a below h m v between w t (Some d) only sound linked is sends =
     service_joined o a below h m (landed m m.flight t) between w d.0 _ only (sound.channels d.0 serving.below) serving (linked d.0 serving.below)
     (landed_record_is m v d.0 m.flight t sound serving.below refl) sends
 
-turn_joined : (o : Choice) (a : ℕ) → a < 2 ^ 32 → (h : History) (t : Turned) (m n : State) (v w : View) → OnlyUnder o a h → Sound m v → Linked h m → Turns t m n v w
+turn_joined : (o : Choice) (a : ℕ) → a < 2 ^ 32 → (h : History) (t : Turned) (m n : Mean) (v w : View) → OnlyUnder o a h → Sound m v → Linked h m → Turns t m n v w
     → w.cell a ≡ after o (words_by t.service a h) (v.cell a)
 turn_joined o a below h t m n v w only sound linked turns =
     let mid = landed m m.flight turns.answered in
@@ -196,7 +195,7 @@ none_given a h (Ok c) = refl
 none_given a h (Err f) = refl
 
 -- one step joins the cell with the words that its answer tells
-step_joined : (o : Choice) (a : ℕ) → a < 2 ^ 32 → (call : Call) (h : History) (b : Answer) (m n : State) (v w : View) → OnlyUnder o a h → Sound m v → Linked h m → Step call b m v n w
+step_joined : (o : Choice) (a : ℕ) → a < 2 ^ 32 → (call : Call) (h : History) (b : Answer) (m n : Mean) (v w : View) → OnlyUnder o a h → Sound m v → Linked h m → Step call b m v n w
     → w.cell a ≡ after o (words_in b a h) (v.cell a)
 step_joined o a below reserve h b m n v w only sound linked (is, _, same) = still o a h b _ v w is (none_given a h _) same
 step_joined o a below (release c) h b m n v w only sound linked (is, _, same) = still o a h b _ v w is (none_done a h _) same
@@ -213,7 +212,7 @@ step_joined o a below turn h b m n v w only sound linked (t, is, turns) =
 
 -- over a run from a new mover
 cell_summed : (opening : View) → SoundRuns opening → (a : ℕ) → a < 2 ^ 32 → (o : Choice)
-    → {h : History} {m : State} {v : View} → Run new_state opening h m v → OnlyUnder o a h → v.cell a ≡ after o (words_sent a h) (opening.cell a)
+    → {h : History} {m : Mean} {v : View} → Run new_mean opening h m v → OnlyUnder o a h → v.cell a ≡ after o (words_sent a h) (opening.cell a)
 cell_summed opening sound a below o begin only = mapped_same (opening.cell a)
 cell_summed opening sound a below o (next {h} {m} {n} {v} {w} {c} {a = b} run step) (here, only) =
     step_joined o a below c h b m n v w only (sound h m v run) (linked opening sound run) step
@@ -226,6 +225,6 @@ after_same o us ws None same = refl
 after_same o us ws (Some x) same = ap Some (same_joined o x us ws same)
 
 -- The cell holds its opening word joined with every word sent to it
-pub summed : (opening : View) → SoundRuns opening → {h : History} {m : State} {v : View} → Run new_state opening h m v → Summed (seen new_state opening) h
+pub summed : (opening : View) → SoundRuns opening → {h : History} {m : Mean} {v : View} → Run new_mean opening h m v → Summed (seen new_mean opening) h
 summed opening sound {h} run a below o only words same =
     ap (λ (s : Seen). s.cell a) (now_seen_is run) ∙ cell_summed opening sound a below o run only ∙ sym (after_same o words (words_sent a h) (opening.cell a) same)

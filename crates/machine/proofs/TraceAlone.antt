@@ -6,8 +6,7 @@ use Rattle.memory.specs.Views.{View}
 use Rattle.program.specs.Pieces.{count_up}
 use Rattle.machine.specs.Histories.{Begun, cell_at}
 use Rattle.machine.specs.Laws.{word_of, cell_alone}
-use Rattle.machine.specs.declared.state.State.{State}
-use Rattle.machine.specs.Means.{record_of}
+use Rattle.machine.specs.Means.{Mean, record_of}
 use Rattle.machine.specs.Soundness.{Due, due_from, dues, places_due, still_due, ChannelSound}
 use Rattle.operators.specs.Modes.{mode_wants_reply}
 use Rattle.machine.specs.Turns.{word_sent, landed_record, flight_after}
@@ -64,7 +63,7 @@ still_due_is true sent landed h = omega arith
 still_due_is false sent landed h = absurd (omega arith)
 
 -- it goes to the place behind those that have landed
-pub head_due : (m : State) (c : ℕ) (d : Due) (ds : List Due) → ChannelSound m c → dues m.flight ≡ d ∷ ds → d.channel ≡ c
+pub head_due : (m : Mean) (c : ℕ) (d : Due) (ds : List Due) → ChannelSound m c → dues m.flight ≡ d ∷ ds → d.channel ≡ c
     → (d.place ≡ (record_of m c).program.first + (record_of m c).counts.landed) × ((record_of m c).counts.landed < (record_of m c).counts.sent)
 head_due m c d ds sound split same =
     let here : places_due c (d ∷ ds) ≡ d.place ∷ places_due c ds = cond-true _ _ _ (eq-eqb _ _ same) in

@@ -14,8 +14,7 @@ use Rattle.program.specs.declared.layout.Words.{Words}
 use Rattle.machine.specs.Calls.{Refused, unless_refused, lowest_free, empty_window, reserve_state, release_refused, release_state, put_refused, put_state, fill_refused, fill_state, stored, started, start_program, start_refused, start_state, stop_refused, stop_state}
 use Rattle.machine.specs.Histories.{Begun, accepted, program_of, start_of, start_in, starts_on, touches_by}
 use Rattle.machine.specs.Laws.{cell_alone}
-use Rattle.machine.specs.declared.state.State.{State}
-use Rattle.machine.specs.Means.{absent, cleared, record_of, with_record, with_quiet}
+use Rattle.machine.specs.Means.{Mean, absent, cleared, record_of, with_record, with_quiet}
 use Rattle.machine.specs.Soundness.{dues, Sound}
 use Rattle.machine.specs.Steps.{Call, reserve, release, put, fill, start, stop, quiet, wake, look, status, turn, Step, done_unless}
 use Rattle.machine.specs.Turns.{landed, landed_record, served, serviced, served_record}
@@ -44,28 +43,28 @@ kept_field g rs k d r same =
     ⊎_elim (λ e. ap g e.1 ∙ same ∙ ap (λ (j : ℕ). g (get_or rs j absent)) e.0) (λ e. ap g e) (set_either rs k d r)
 
 -- the channel's counts and window, and the pieces in flight, are as they were
-record Still (c : ℕ) (m n : State) : Type 0 where
+record Still (c : ℕ) (m n : Mean) : Type 0 where
   sent : (record_of n c).counts.sent ≡ (record_of m c).counts.sent
   landed : (record_of n c).counts.landed ≡ (record_of m c).counts.landed
   window : (record_of n c).window ≡ (record_of m c).window
   flight : n.flight ≡ m.flight
 
-still_same : (c : ℕ) (m n : State) → n ≡ m → Still c m n
+still_same : (c : ℕ) (m n : Mean) → n ≡ m → Still c m n
 still_same c m n e = subst (Still c m) (sym e) (record { sent = refl; landed = refl; window = refl; flight = refl })
 
-still_record : (c : ℕ) (m n : State) → record_of n c ≡ record_of m c → n.flight ≡ m.flight → Still c m n
+still_record : (c : ℕ) (m n : Mean) → record_of n c ≡ record_of m c → n.flight ≡ m.flight → Still c m n
 still_record c m n same flight =
     record { sent = ap (λ (r : Record). r.counts.sent) same; landed = ap (λ (r : Record). r.counts.landed) same; window = ap (λ (r : Record). r.window) same; flight = flight }
 
-still_other : (c k : ℕ) (m n : State) (r : Record) → n.records ≡ set m.records k r → n.flight ≡ m.flight → (k ≡ c → ⊥) → Still c m n
+still_other : (c k : ℕ) (m n : Mean) (r : Record) → n.records ≡ set m.records k r → n.flight ≡ m.flight → (k ≡ c → ⊥) → Still c m n
 still_other c k m n r records flight other =
     still_record c m n (ap (λ (l : List Record). get_or l c absent) records ∙ get_or-set_other m.records k c r absent (λ e. other (sym e))) flight
 
-still_unless : (c : ℕ) (o : Refused) (m n : State) → (o ≡ None → Still c m n) → Still c m (unless_refused o m n)
+still_unless : (c : ℕ) (o : Refused) (m n : Mean) → (o ≡ None → Still c m n) → Still c m (unless_refused o m n)
 still_unless c None m n accepted = accepted refl
 still_unless c (Some f) m n accepted = still_same c m m refl
 
-alone_still : (c : ℕ) (b : Begun) (m n : State) (v w : View) → Still c m n → w ≡ v → Alone c b (record_of m c) v (dues m.flight) → Alone c b (record_of n c) w (dues n.flight)
+alone_still : (c : ℕ) (b : Begun) (m n : Mean) (v w : View) → Still c m n → w ≡ v → Alone c b (record_of m c) v (dues m.flight) → Alone c b (record_of n c) w (dues n.flight)
 alone_still c b m n v w still same alone =
     subst (λ (x : View). Alone c b (record_of n c) x (dues n.flight)) (sym same)
     (record {
@@ -91,7 +90,7 @@ free_is (r ∷ rs) k e = go r.flags.reserved refl (lowest_free rs) k e (free_is 
     go true is None k e later = absurd (let z : ◌≡◌ {A = ℕ} 0 1 = cc in omega arith)
     go true is (Some j) k e later = let z : k ≡ suc j = cc in ap (λ (j : ℕ). (get_or (r ∷ rs) j absent).flags.reserved) z ∙ later j refl
 
-still_reserve : (c : ℕ) (m : State) → (record_of m c).flags.reserved ≡ true → Still c m (reserve_state m)
+still_reserve : (c : ℕ) (m : Mean) → (record_of m c).flags.reserved ≡ true → Still c m (reserve_state m)
 still_reserve c m held = go (lowest_free m.records) refl
   where
     go : (o : Option ℕ) → lowest_free m.records ≡ o → Still c m (elim o [ None ↦ m | Some k ↦ with_record m k (cleared true empty_window) ])
@@ -99,7 +98,7 @@ still_reserve c m held = go (lowest_free m.records) refl
     go (Some k) e = still_other c k m (with_record m k (cleared true empty_window)) (cleared true empty_window) refl refl
         (λ same. both_ways (record_of m c).flags.reserved (subst (λ (j : ℕ). (record_of m j).flags.reserved ≡ false) same (free_is m.records k e)) held)
 
-still_start : (c d : ℕ) (words : Words) (a : Answer) (m : State) → a ≡ done_unless (start_refused m d words) → starts_on c (start_in (start d words) (accepted a)) ≡ false
+still_start : (c d : ℕ) (words : Words) (a : Answer) (m : Mean) → a ≡ done_unless (start_refused m d words) → starts_on c (start_in (start d words) (accepted a)) ≡ false
     → start_refused m d words ≡ None → Still c m (start_state m d words)
 still_start c d words a m answered elsewhere none =
     let ok : accepted a ≡ true = ap accepted answered ∙ ap (λ (x : Refused). accepted (done_unless x)) none in
@@ -110,7 +109,7 @@ still_start c d words a m answered elsewhere none =
     go (Ok p) other = still_other c d m (start_program m d (stored p)) (started (stored p) (record_of m d).window) refl refl (eqb-false d c other)
     go (Err f) other = still_same c m m refl
 
-still_stop : (c d : ℕ) (m : State) → Still c m (stop_state m d)
+still_stop : (c d : ℕ) (m : Mean) → Still c m (stop_state m d)
 still_stop c d m =
     record {
       sent = kept_field (λ r. r.counts.sent) m.records d c _ refl;
@@ -119,11 +118,11 @@ still_stop c d m =
       flight = refl;
     }
 
-still_quiet : (c : ℕ) (m : State) (b : Bool) → Still c m (with_quiet m b)
+still_quiet : (c : ℕ) (m : Mean) (b : Bool) → Still c m (with_quiet m b)
 still_quiet c m b = record { sent = refl; landed = refl; window = refl; flight = refl }
 
 -- a step that starts no program on the channel and leaves its window alone
-pub alone_step : (call : Call) (a : Answer) (m n : State) (v w : View) (c : ℕ) (b : Begun) → c < 16 → Step call a m v n w → Sound m v → Free c b m
+pub alone_step : (call : Call) (a : Answer) (m n : Mean) (v w : View) (c : ℕ) (b : Begun) → c < 16 → Step call a m v n w → Sound m v → Free c b m
     → (record_of m c).flags.reserved ≡ true → starts_on c (start_in call (accepted a)) ≡ false → touches_by c call a ≡ false
     → Ready c b (record_of m c) v (dues m.flight) → Alone c b (record_of m c) v (dues m.flight) → Alone c b (record_of n c) w (dues n.flight)
 alone_step reserve a m n v w c b small (_, is, same) sound free held elsewhere left ready = alone_still c b m n v w (subst (Still c m) (sym is) (still_reserve c m held)) same
@@ -146,13 +145,13 @@ alone_step turn a m n v w c b small (t, _, turns) sound free held elsewhere left
 -- WHAT RUNS
 
 -- what runs after a step and was not started by it ran before
-abbrev Ran : ℕ → State → State → Type 0
+abbrev Ran : ℕ → Mean → Mean → Type 0
 Ran d m n = (record_of n d).flags.running ≡ true → (record_of m d).flags.running ≡ true
 
-ran_same : (d : ℕ) (m n : State) → n ≡ m → Ran d m n
+ran_same : (d : ℕ) (m n : Mean) → n ≡ m → Ran d m n
 ran_same d m n e = subst (Ran d m) (sym e) (λ runs. runs)
 
-ran_set : (d k : ℕ) (m n : State) (r : Record) → n.records ≡ set m.records k r → (r.flags.running ≡ true → (record_of m k).flags.running ≡ true) → Ran d m n
+ran_set : (d k : ℕ) (m n : Mean) (r : Record) → n.records ≡ set m.records k r → (r.flags.running ≡ true → (record_of m k).flags.running ≡ true) → Ran d m n
 ran_set d k m n r records before runs =
     let after : (get_or (set m.records k r) d absent).flags.running ≡ true = subst (λ (l : List Record). (get_or l d absent).flags.running ≡ true) records runs in
     ⊎_elim
@@ -163,18 +162,18 @@ ran_set d k m n r records before runs =
 never : {A : Type 0} → false ≡ true → A
 never e = absurd (let z : ◌≡◌ {A = ℕ} 0 1 = cc in omega arith)
 
-ran_unless : (d : ℕ) (o : Refused) (m n : State) → (o ≡ None → Ran d m n) → Ran d m (unless_refused o m n)
+ran_unless : (d : ℕ) (o : Refused) (m n : Mean) → (o ≡ None → Ran d m n) → Ran d m (unless_refused o m n)
 ran_unless d None m n accepted = accepted refl
 ran_unless d (Some f) m n accepted = λ runs. runs
 
-ran_reserve : (d : ℕ) (m : State) → Ran d m (reserve_state m)
+ran_reserve : (d : ℕ) (m : Mean) → Ran d m (reserve_state m)
 ran_reserve d m = go (lowest_free m.records)
   where
     go : (o : Option ℕ) → Ran d m (elim o [ None ↦ m | Some k ↦ with_record m k (cleared true empty_window) ])
     go None = λ runs. runs
     go (Some k) = ran_set d k m (with_record m k (cleared true empty_window)) (cleared true empty_window) refl never
 
-ran_start : (d k : ℕ) (words : Words) (a : Answer) (m : State) → a ≡ done_unless (start_refused m k words) → starts_on d (start_in (start k words) (accepted a)) ≡ false
+ran_start : (d k : ℕ) (words : Words) (a : Answer) (m : Mean) → a ≡ done_unless (start_refused m k words) → starts_on d (start_in (start k words) (accepted a)) ≡ false
     → start_refused m k words ≡ None → Ran d m (start_state m k words)
 ran_start d k words a m answered elsewhere none =
     let ok : accepted a ≡ true = ap accepted answered ∙ ap (λ (x : Refused). accepted (done_unless x)) none in
@@ -186,19 +185,19 @@ ran_start d k words a m answered elsewhere none =
         (get_or-set_other m.records k d (started (stored p) (record_of m k).window) absent (λ e. eqb-false k d other (sym e))) runs
     go (Err f) other = λ runs. runs
 
-ran_landed : (d : ℕ) (m : State) (fl : List Piece) (t : Taken) → Ran d m (landed m fl t)
+ran_landed : (d : ℕ) (m : Mean) (fl : List Piece) (t : Taken) → Ran d m (landed m fl t)
 ran_landed d m [] t = λ runs. runs
 ran_landed d m (p ∷ rest) taken.Nothing = λ runs. runs
 ran_landed d m (p ∷ rest) taken.NotYet = λ runs. runs
 ran_landed d m (p ∷ rest) (taken.Reply w) =
     ran_set d p.channel.0 m (landed m (p ∷ rest) (taken.Reply w)) (landed_record p w (record_of m p.channel.0)) refl (λ runs. (and_parts (record_of m p.channel.0).flags.running _ runs).0)
 
-ran_served : (d : ℕ) (m : State) (o : Option Channel) → Ran d m (served m o)
+ran_served : (d : ℕ) (m : Mean) (o : Option Channel) → Ran d m (served m o)
 ran_served d m None = λ runs. runs
 ran_served d m (Some c) =
     ran_set d c.0 m (served m (Some c)) (served_record (record_of m c.0)) refl (λ runs. (and_parts (record_of m c.0).flags.running _ runs).0)
 
-pub ran_step : (call : Call) (a : Answer) (m n : State) (v w : View) (d : ℕ) → Step call a m v n w → starts_on d (start_in call (accepted a)) ≡ false
+pub ran_step : (call : Call) (a : Answer) (m n : Mean) (v w : View) (d : ℕ) → Step call a m v n w → starts_on d (start_in call (accepted a)) ≡ false
     → (record_of n d).flags.running ≡ true → (record_of m d).flags.running ≡ true
 ran_step reserve a m n v w d (_, is, _) elsewhere = subst (Ran d m) (sym is) (ran_reserve d m)
 ran_step (release k) a m n v w d (_, is, _) elsewhere =
@@ -217,4 +216,4 @@ ran_step (look k p) a m n v w d (_, is, _) elsewhere = ran_same d m n is
 ran_step (status k) a m n v w d (_, is, _) elsewhere = ran_same d m n is
 ran_step turn a m n v w d (t, _, turns) elsewhere = λ runs.
     let mid = landed m m.flight turns.answered in
-    ran_landed d m m.flight turns.answered (ran_served d mid (serviced mid) (subst (λ (o : State). (record_of o d).flags.running ≡ true) turns.after_is runs))
+    ran_landed d m m.flight turns.answered (ran_served d mid (serviced mid) (subst (λ (o : Mean). (record_of o d).flags.running ≡ true) turns.after_is runs))

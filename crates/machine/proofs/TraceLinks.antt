@@ -2,8 +2,7 @@
 use Rattle.std.proofs.Common.{◌≡◌, ℕ, ◌+◌, ◌<◌, ◌≤◌, true, leb, ◌⊎◌, get_or, None, sym, ◌∙◌, inl, inr, ⊎_elim, arith}
 use Rattle.std.proofs.lemmas.Bool.{cond-true, le-leb, cases_lt}
 use Rattle.machine.specs.Laws.{tells}
-use Rattle.machine.specs.declared.state.State.{State}
-use Rattle.machine.specs.Means.{record_of}
+use Rattle.machine.specs.Means.{Mean, record_of}
 use Rattle.machine.specs.Steps.{History}
 use Rattle.machine.specs.declared.record.Record.{Record}
 use Rattle.machine.proofs.Linked.{Link, look_in}
@@ -16,7 +15,7 @@ in_is c p r small inside held =
 outside : (f p l : ℕ) → (f ≤ p → p < f + l → ⊥) → (p < f) ⊎ (f + l ≤ p)
 outside f p l none = ⊎_elim (λ below. inl below) (λ from. ⊎_elim (λ to. absurd (none from to)) (λ past. inr past) (cases_lt p (f + l))) (cases_lt p f)
 
-pub trace_links : (h : History) (m : State) → ((c : ℕ) → c < 16 → Link c h (record_of m c)) → Linked h m
+pub trace_links : (h : History) (m : Mean) → ((c : ℕ) → c < 16 → Link c h (record_of m c)) → Linked h m
 trace_links h m link =
     record {
       sent = λ c small. (link c small).sent;

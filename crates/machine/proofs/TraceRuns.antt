@@ -7,9 +7,8 @@ use Rattle.machine.specs.Calls.{look_answer}
 use Rattle.machine.specs.Histories.{now_seen, landed_told, sent_told, accepted, Starts, start_of, program_of, start_in, starts_on, Begun, begun_by, begun, resets_by, sent_count, landed_count, touches_by, touched, cell_at, Conflict, ConflictsRunning, ConflictsLater, ClashBy, Clashes}
 use Rattle.machine.specs.Laws.{Traced, word_told, place_alone, cell_alone}
 use Rattle.machine.specs.Laws as law
-use Rattle.machine.specs.declared.state.State.{State}
-use Rattle.machine.specs.Means.{record_of}
-use Rattle.machine.specs.Soundness.{new_state, dues, Sound}
+use Rattle.machine.specs.Means.{Mean, record_of}
+use Rattle.machine.specs.Soundness.{new_mean, dues, Sound}
 use Rattle.machine.specs.Steps.{Call, reserve, release, put, fill, start, stop, quiet, wake, look, status, turn, Step, Seen, seen, History, Run, begin, next}
 use Rattle.machine.specs.declared.answer.Answer.{Answer}
 use Rattle.machine.specs.declared.fault.ChannelFault.{ChannelFault}
@@ -22,7 +21,7 @@ use Rattle.machine.proofs.TraceStatus.{sent_told_is, landed_told_is, runs_told}
 use Rattle.machine.proofs.TraceTurn.{Free}
 
 -- how a history tells what is kept of the channels
-pub record Linked (h : History) (m : State) : Type 0 where
+pub record Linked (h : History) (m : Mean) : Type 0 where
   pub sent : (c : ℕ) → c < 16 → (record_of m c).counts.sent ≡ sent_count c h
   pub landed : (c : ℕ) → c < 16 → (record_of m c).counts.landed ≡ landed_count c h
   -- what runs was begun
@@ -36,7 +35,7 @@ pub record Linked (h : History) (m : State) : Type 0 where
 
 -- WHAT LOOK TELLS
 
-pub look_is : (m : State) (c p : ℕ) → c < 16 → p < 256 → (record_of m c).flags.reserved ≡ true → look_answer m c p ≡ law.tells p (get_or (record_of m c).window p None)
+pub look_is : (m : Mean) (c p : ℕ) → c < 16 → p < 256 → (record_of m c).flags.reserved ≡ true → look_answer m c p ≡ law.tells p (get_or (record_of m c).window p None)
 look_is m c p small inside held =
     cond-true (leb c 15) _ _ (le-leb c 15 (omega arith)) ∙ cond-true (leb p 255) _ _ (le-leb p 255 (omega arith)) ∙ cond-true (record_of m c).flags.reserved _ _ held
     ∙ go (get_or (record_of m c).window p None)
@@ -50,7 +49,7 @@ word_told_is p None = refl
 word_told_is p (Some w) = refl
 
 -- the words still to be sent are those that were told at the start
-ready : (h : History) (m : State) (v : View) (c : ℕ) (b : Begun) → c < 16 → Sound m v → Linked h m → begun c h ≡ Some b → touched c h ≡ false
+ready : (h : History) (m : Mean) (v : View) (c : ℕ) (b : Begun) → c < 16 → Sound m v → Linked h m → begun c h ≡ Some b → touched c h ≡ false
     → Ready c b (record_of m c) v (dues m.flight)
 ready h m v c b small sound linked is left =
     let program = linked.program c small b is left in
@@ -78,10 +77,10 @@ ready h m v c b small sound linked is left =
 -- CLASHES
 
 -- no program of another channel that runs conflicts with this one
-abbrev Apart : ℕ → Begun → History → State → Type 0
+abbrev Apart : ℕ → Begun → History → Mean → Type 0
 Apart c b h m = (d : ℕ) → d < 16 → (d ≡ c → ⊥) → (record_of m d).flags.running ≡ true → (q : Begun) → begun d h ≡ Some q → Conflict b.program q.program → ⊥
 
-free_now : (h : History) (m : State) (c : ℕ) (b : Begun) → Linked h m → Apart c b h m → Free c b m
+free_now : (h : History) (m : Mean) (c : ℕ) (b : Begun) → Linked h m → Apart c b h m → Free c b m
 free_now h m c b linked apart d small other running conflict =
     let was = linked.runs_begun d small running in
     apart d small other running was.0 was.1 (subst (Conflict b.program) was.3 conflict)
@@ -121,7 +120,7 @@ clash_begun c d b q (Some s) after h before is other here e conflict =
     program_of_is : ◌≡◌ {A = Option Begun} (Some (record { program = s.program; at = after })) (Some q) → s.program ≡ q.program
     program_of_is f = let g : record { program = s.program; at = after } ≡ q = cc in ap (λ (x : Begun). x.program) g
 
-apart_step : (call : Call) (a : Answer) (m n : State) (v w : View) (h : History) (c : ℕ) (b : Begun) → Step call a m v n w → begun c h ≡ Some b
+apart_step : (call : Call) (a : Answer) (m n : Mean) (v w : View) (h : History) (c : ℕ) (b : Begun) → Step call a m v n w → begun c h ≡ Some b
     → starts_on c (start_in call (accepted a)) ≡ false → (Clashes c (record { call = call; answer = a; after = seen n w } ∷ h) → ⊥)
     → Apart c b h m → Apart c b (record { call = call; answer = a; after = seen n w } ∷ h) n
 apart_step call a m n v w h c b step is elsewhere free apart d small other running q e conflict =
@@ -133,7 +132,7 @@ apart_step call a m n v w h c b step is elsewhere free apart d small other runni
     (cases_Bool (starts_on d (start_in call (accepted a))))
 
 -- at a start, the program is compared with all that run
-apart_start : (s : Option Starts) (n : State) (w : View) (h : History) (c : ℕ) (q : Starts) (before : Type 0) → starts_on c s ≡ true → s ≡ Some q → (ClashBy c s (seen n w) h before → ⊥)
+apart_start : (s : Option Starts) (n : Mean) (w : View) (h : History) (c : ℕ) (q : Starts) (before : Type 0) → starts_on c s ≡ true → s ≡ Some q → (ClashBy c s (seen n w) h before → ⊥)
     → (d : ℕ) → d < 16 → (d ≡ c → ⊥) → (record_of n d).flags.running ≡ true → (o : Begun) → begun_by d s (seen n w) (begun d h) ≡ Some o → Conflict q.program o.program → ⊥
 apart_start s n w h c q before here is free d small other running o e conflict =
     let mine : eqb q.channel c ≡ true = subst (λ (x : Option Starts). starts_on c x ≡ true) is here in
@@ -168,7 +167,7 @@ none_due true sent landed a e = let z : sent - landed ≡ 0 = omega arith in ap 
 none_due false sent landed a e = refl
 
 -- with nothing sent and nothing landed, all is as it is seen
-fresh : (n : State) (w : View) (c : ℕ) (p : Stored) → c < 16 → Sound n w → (record_of n c).counts.sent ≡ 0 → (record_of n c).counts.landed ≡ 0
+fresh : (n : Mean) (w : View) (c : ℕ) (p : Stored) → c < 16 → Sound n w → (record_of n c).counts.sent ≡ 0 → (record_of n c).counts.landed ≡ 0
     → Alone c (record { program = p; at = seen n w }) (record_of n c) w (dues n.flight)
 fresh n w c p small sound sent landed =
     record {
@@ -188,15 +187,15 @@ left_alone false false v e h = (refl, h)
 left_alone false true v e h = absurd (let z : ◌≡◌ {A = ℕ} 0 1 = cc in omega arith)
 left_alone true u v e h = absurd (let z : ◌≡◌ {A = ℕ} 0 1 = cc in omega arith)
 
-pub record Trace (c : ℕ) (b : Begun) (h : History) (m : State) (v : View) : Type 0 where
+pub record Trace (c : ℕ) (b : Begun) (h : History) (m : Mean) (v : View) : Type 0 where
   pub apart : (d : ℕ) → d < 16 → (d ≡ c → ⊥) → (record_of m d).flags.running ≡ true → (q : Begun) → begun d h ≡ Some q → Conflict b.program q.program → ⊥
   pub alone : Alone c b (record_of m c) v (dues m.flight)
 
 -- what holds of each program that clashes with none, on a window that was left alone
-abbrev pub Traces : History → State → View → Type 0
+abbrev pub Traces : History → Mean → View → Type 0
 Traces h m v = (c : ℕ) → c < 16 → (b : Begun) → begun c h ≡ Some b → (Clashes c h → ⊥) → touched c h ≡ false → Trace c b h m v
 
-traces_start : (call : Call) (a : Answer) (n : State) (w : View) (h : History) (c : ℕ) (b : Begun) → c < 16 → Sound n w → Linked (record { call = call; answer = a; after = seen n w } ∷ h) n
+traces_start : (call : Call) (a : Answer) (n : Mean) (w : View) (h : History) (c : ℕ) (b : Begun) → c < 16 → Sound n w → Linked (record { call = call; answer = a; after = seen n w } ∷ h) n
     → begun c (record { call = call; answer = a; after = seen n w } ∷ h) ≡ Some b → (Clashes c (record { call = call; answer = a; after = seen n w } ∷ h) → ⊥)
     → starts_on c (start_in call (accepted a)) ≡ true → Trace c b (record { call = call; answer = a; after = seen n w } ∷ h) n w
 traces_start call a n w h c b small sound linked is free here =
@@ -212,7 +211,7 @@ traces_start call a n w h c b small sound linked is free here =
     some_same : (x y : Begun) → ◌≡◌ {A = Option Begun} (Some x) (Some y) → x ≡ y
     some_same x y e = cc
 
-traces_more : (call : Call) (a : Answer) (m n : State) (v w : View) (h : History) (c : ℕ) (b : Begun) → c < 16 → Step call a m v n w → Sound m v → Linked h m
+traces_more : (call : Call) (a : Answer) (m n : Mean) (v w : View) (h : History) (c : ℕ) (b : Begun) → c < 16 → Step call a m v n w → Sound m v → Linked h m
     → begun c (record { call = call; answer = a; after = seen n w } ∷ h) ≡ Some b → (Clashes c (record { call = call; answer = a; after = seen n w } ∷ h) → ⊥)
     → touched c (record { call = call; answer = a; after = seen n w } ∷ h) ≡ false → starts_on c (start_in call (accepted a)) ≡ false → Traces h m v
     → Trace c b (record { call = call; answer = a; after = seen n w } ∷ h) n w
@@ -226,7 +225,7 @@ traces_more call a m n v w h c b small step sound linked is free left elsewhere 
           (ready h m v c b small sound linked was alike.1) trace.alone;
     }
 
-pub traces_step : (call : Call) (a : Answer) (m n : State) (v w : View) (h : History) → Step call a m v n w → Sound m v → Sound n w → Linked h m
+pub traces_step : (call : Call) (a : Answer) (m n : Mean) (v w : View) (h : History) → Step call a m v n w → Sound m v → Sound n w → Linked h m
     → Linked (record { call = call; answer = a; after = seen n w } ∷ h) n → Traces h m v → Traces (record { call = call; answer = a; after = seen n w } ∷ h) n w
 traces_step call a m n v w h step sound sound-after linked linked-after before c small b is free left =
     ⊎_elim
@@ -234,12 +233,12 @@ traces_step call a m n v w h step sound sound-after linked linked-after before c
     (λ elsewhere. traces_more call a m n v w h c b small step sound linked is free left elsewhere before)
     (cases_Bool (starts_on c (start_in call (accepted a))))
 
-pub now_seen_is : {v : View} {h : History} {n : State} {w : View} → Run new_state v h n w → now_seen (seen new_state v) h ≡ seen n w
+pub now_seen_is : {v : View} {h : History} {n : Mean} {w : View} → Run new_mean v h n w → now_seen (seen new_mean v) h ≡ seen n w
 now_seen_is begin = refl
 now_seen_is (next run step) = refl
 
 -- what is seen where all this holds
-traced_now : (h : History) (m : State) (v : View) (s : Seen) → now_seen s h ≡ seen m v → Sound m v → Linked h m → Traces h m v → Traced s h
+traced_now : (h : History) (m : Mean) (v : View) (s : Seen) → now_seen s h ≡ seen m v → Sound m v → Linked h m → Traces h m v → Traced s h
 traced_now h m v s now sound linked traces =
     record {
       sent = λ c small. ap (λ (x : Seen). sent_told x c) now ∙ sent_told_is c small sound ∙ linked.sent c small;
@@ -259,19 +258,19 @@ traced_now h m v s now sound linked traces =
 
 -- how soundness and the links are come by is shown elsewhere
 pub record Grounds : Type 0 where
-  pub sound_new : (v : View) → v.transit ≡ [] → Sound new_state v
-  pub sound_step : (c : Call) (a : Answer) (m n : State) (v w : View) → Step c a m v n w → Sound m v → Sound n w
-  pub links : {v : View} {h : History} {n : State} {w : View} → Run new_state v h n w → v.transit ≡ [] → Linked h n
+  pub sound_new : (v : View) → v.transit ≡ [] → Sound new_mean v
+  pub sound_step : (c : Call) (a : Answer) (m n : Mean) (v w : View) → Step c a m v n w → Sound m v → Sound n w
+  pub links : {v : View} {h : History} {n : Mean} {w : View} → Run new_mean v h n w → v.transit ≡ [] → Linked h n
 
 module _ (grounds : Grounds) where
-  pub sound_run : {v : View} {h : History} {n : State} {w : View} → Run new_state v h n w → v.transit ≡ [] → Sound n w
+  pub sound_run : {v : View} {h : History} {n : Mean} {w : View} → Run new_mean v h n w → v.transit ≡ [] → Sound n w
   sound_run {v} begin empty = grounds.sound_new v empty
   sound_run (next {h} {m} {n} {v} {w} {c} {a} run step) empty = grounds.sound_step c a m n v w step (sound_run run empty)
 
-  pub traces : {v : View} {h : History} {n : State} {w : View} → Run new_state v h n w → v.transit ≡ [] → Traces h n w
+  pub traces : {v : View} {h : History} {n : Mean} {w : View} → Run new_mean v h n w → v.transit ≡ [] → Traces h n w
   traces begin empty = λ c small b is free left. absurd (let z : ◌≡◌ {A = ℕ} 0 1 = cc in omega arith)
   traces (next {h} {m} {n} {v} {w} {c} {a} run step) empty =
       traces_step c a m n v w h step (sound_run run empty) (sound_run (next run step) empty) (grounds.links run empty) (grounds.links (next run step) empty) (traces run empty)
 
-  pub traced : {v : View} {h : History} {n : State} {w : View} → Run new_state v h n w → v.transit ≡ [] → Traced (seen new_state v) h
-  traced {v} {h} {n} {w} run empty = traced_now h n w (seen new_state v) (now_seen_is run) (sound_run run empty) (grounds.links run empty) (traces run empty)
+  pub traced : {v : View} {h : History} {n : Mean} {w : View} → Run new_mean v h n w → v.transit ≡ [] → Traced (seen new_mean v) h
+  traced {v} {h} {n} {w} run empty = traced_now h n w (seen new_mean v) (now_seen_is run) (sound_run run empty) (grounds.links run empty) (traces run empty)

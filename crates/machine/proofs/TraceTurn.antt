@@ -8,8 +8,7 @@ use Rattle.memory.specs.declared.request.Taken.{Taken}
 use Rattle.memory.specs.declared.request.Taken.TheVariants as taken
 use Rattle.numbers.specs.declared.channel.Channel.{Channel}
 use Rattle.machine.specs.Histories.{Begun, Conflict}
-use Rattle.machine.specs.declared.state.State.{State}
-use Rattle.machine.specs.Means.{record_of, absent}
+use Rattle.machine.specs.Means.{Mean, record_of, absent}
 use Rattle.machine.specs.Soundness.{Due, dues, times, finals, ChannelsFit, PiecesFit, Sound, ChannelSound}
 use Rattle.machine.specs.Turns.{landed_record, flight_after, landed, chosen, serviced, requests, requested, served_record, served, SentAll, TakenOnce, Turns}
 use Rattle.machine.specs.declared.answer.Turned.{Turned}
@@ -23,23 +22,23 @@ use Rattle.machine.proofs.TraceService.{served_dues, served_dues_is, serve_own, 
 -- LANDING
 
 -- what landing leaves of every channel
-record Left (m n : State) : Type 0 where
+record Left (m n : Mean) : Type 0 where
   wide : length n.records ≡ length m.records
   singles : n.singles ≡ m.singles
   blocks : n.blocks ≡ m.blocks
   program : (d : ℕ) → d < length m.records → (record_of n d).program ≡ (record_of m d).program
   sent : (d : ℕ) → d < length m.records → (record_of n d).counts.sent ≡ (record_of m d).counts.sent
 
-left_all : (m : State) → Left m m
+left_all : (m : Mean) → Left m m
 left_all m = record { wide = refl; singles = refl; blocks = refl; program = λ d h. refl; sent = λ d h. refl }
 
 -- both of a channel
-record Both (c : ℕ) (b : Begun) (m : State) (v : View) : Type 0 where
+record Both (c : ℕ) (b : Begun) (m : Mean) (v : View) : Type 0 where
   ready : Ready c b (record_of m c) v (dues m.flight)
   alone : Alone c b (record_of m c) v (dues m.flight)
 
 -- the memory's cells and transit are as they were
-both_kept : (c : ℕ) (b : Begun) (m : State) (v x : View) → ((a : ℕ) → a < 2 ^ 32 → x.cell a ≡ v.cell a) → x.transit ≡ v.transit → Both c b m v → Both c b m x
+both_kept : (c : ℕ) (b : Begun) (m : Mean) (v x : View) → ((a : ℕ) → a < 2 ^ 32 → x.cell a ≡ v.cell a) → x.transit ≡ v.transit → Both c b m v → Both c b m x
 both_kept c b m v x cells transit both =
     record {
       ready = record { program = both.ready.program; words = both.ready.words; tied = ap length transit ∙ both.ready.tied };
@@ -50,19 +49,19 @@ both_kept c b m v x cells transit both =
       };
     }
 
-record Landed (c : ℕ) (b : Begun) (m n : State) (x : View) : Type 0 where
+record Landed (c : ℕ) (b : Begun) (m n : Mean) (x : View) : Type 0 where
   left : Left m n
   both : Both c b n x
 
-landed_same : (m : State) (p : Piece) (w : Option ℕ) (k d : ℕ) → k ≡ d → d < length m.records
+landed_same : (m : Mean) (p : Piece) (w : Option ℕ) (k d : ℕ) → k ≡ d → d < length m.records
     → get_or (set m.records k (landed_record p w (record_of m k))) d absent ≡ landed_record p w (record_of m d)
 landed_same m p w k d same inside =
     ap (λ (j : ℕ). get_or (set m.records j (landed_record p w (record_of m j))) d absent) same ∙ get_or-set_same m.records d (landed_record p w (record_of m d)) absent inside
 
-landed_other : (m : State) (p : Piece) (w : Option ℕ) (k d : ℕ) → (k ≡ d → ⊥) → get_or (set m.records k (landed_record p w (record_of m k))) d absent ≡ record_of m d
+landed_other : (m : Mean) (p : Piece) (w : Option ℕ) (k d : ℕ) → (k ≡ d → ⊥) → get_or (set m.records k (landed_record p w (record_of m k))) d absent ≡ record_of m d
 landed_other m p w k d other = get_or-set_other m.records k d (landed_record p w (record_of m k)) absent (λ e. other (sym e))
 
-land_left : (m : State) (p : Piece) (rest : List Piece) (w : Option ℕ) → Left m (landed m (p ∷ rest) (taken.Reply w))
+land_left : (m : Mean) (p : Piece) (rest : List Piece) (w : Option ℕ) → Left m (landed m (p ∷ rest) (taken.Reply w))
 land_left m p rest w =
     record {
       wide = length-set m.records p.channel.0 (landed_record p w (record_of m p.channel.0));
@@ -78,7 +77,7 @@ land_left m p rest w =
           (cases_eq p.channel.0 d);
     }
 
-land_reply : (c : ℕ) (b : Begun) (m : State) (v x : View) (p : Piece) (rest : List Piece) (w : Option ℕ) → c < 16 → Sound m v → m.flight ≡ p ∷ rest → Lands w v x → Both c b m v
+land_reply : (c : ℕ) (b : Begun) (m : Mean) (v x : View) (p : Piece) (rest : List Piece) (w : Option ℕ) → c < 16 → Sound m v → m.flight ≡ p ∷ rest → Lands w v x → Both c b m v
     → Landed c b m (landed m (p ∷ rest) (taken.Reply w)) x
 land_reply c b m v x p rest w small sound fl lands both =
     let fit : PiecesFit (p ∷ rest) = subst PiecesFit fl sound.pieces_fit in
@@ -108,7 +107,7 @@ land_reply c b m v x p rest w small sound fl lands both =
     there_is : (q f l landed sent long : ℕ) → q ≡ f + landed → landed < sent → sent ≤ l + 1 - f → f ≤ l → l < 256 → long ≡ 256 → q < long
     there_is q f l landed sent long at fewer all ordered within wide = omega arith
 
-land : (c : ℕ) (b : Begun) (m : State) (v x : View) (fl : List Piece) (t : Taken) → c < 16 → Sound m v → m.flight ≡ fl → TakenOnce fl t v x → Both c b m v → Landed c b m (landed m fl t) x
+land : (c : ℕ) (b : Begun) (m : Mean) (v x : View) (fl : List Piece) (t : Taken) → c < 16 → Sound m v → m.flight ≡ fl → TakenOnce fl t v x → Both c b m v → Landed c b m (landed m fl t) x
 land c b m v x [] t small sound fl (_, same) both = record { left = left_all m; both = subst (Both c b m) (sym same) both }
 land c b m v x (p ∷ rest) taken.Nothing small sound fl takes both =
     record { left = left_all m; both = both_kept c b m v x takes.cells (takes.transit.1 ∙ sym takes.transit.0) both }
@@ -145,14 +144,14 @@ chosen_stands d (s ∷ ss) [] after e sf bf = let f = front d s ss e sf in (more
 chosen_stands d (s ∷ ss) (b ∷ bs) true e sf bf = let f = front d b bs e bf in (more_right (times d.0 (s ∷ ss)) (times d.0 (b ∷ bs)) f.0, f.1)
 chosen_stands d (s ∷ ss) (b ∷ bs) false e sf bf = let f = front d s ss e sf in (more_left (times d.0 (s ∷ ss)) (times d.0 (b ∷ bs)) f.0, f.1)
 
-stands_run : (m : State) (d : ℕ) → ChannelSound m d → 0 < times d m.singles + times d m.blocks → (record_of m d).flags.running ≡ true
+stands_run : (m : Mean) (d : ℕ) → ChannelSound m d → 0 < times d m.singles + times d m.blocks → (record_of m d).flags.running ≡ true
 stands_run m d sound some = go (record_of m d).flags.running (times d m.singles + times d m.blocks) (finals d m.flight) some sound.placed
   where
     go : (t : Bool) (a k : ℕ) → 0 < a → a + k ≡ bool_byte t → t ≡ true
     go true a k h e = refl
     go false a k h e = absurd (omega arith)
 
-serve_step : (c k : ℕ) (b : Begun) (m : State) (v x : View) (ds : List Due) → c < length m.records → Fits (record_of m k)
+serve_step : (c k : ℕ) (b : Begun) (m : Mean) (v x : View) (ds : List Due) → c < length m.records → Fits (record_of m k)
     → ((k ≡ c → ⊥) → Conflict b.program (record_of m k).program → ⊥) → SentAll (requests (record_of m k)) v x
     → Ready c b (record_of m c) v ds → Alone c b (record_of m c) v ds
     → Alone c b (get_or (set m.records k (served_record (record_of m k))) c absent) x (served_dues (record_of m k) k ds)
@@ -168,11 +167,11 @@ serve_step c k b m v x ds inside fits free sent ready alone =
     (cases_eq k c)
 
 -- what a service rests on
-record Serves (c : ℕ) (b : Begun) (m : State) (d : Channel) : Type 0 where
+record Serves (c : ℕ) (b : Begun) (m : Mean) (d : Channel) : Type 0 where
   fits : Fits (record_of m d.0)
   free : (d.0 ≡ c → ⊥) → Conflict b.program (record_of m d.0).program → ⊥
 
-serve_all : (c : ℕ) (b : Begun) (m : State) (v x : View) (o : Option Channel) → c < length m.records → ((d : Channel) → o ≡ Some d → Serves c b m d)
+serve_all : (c : ℕ) (b : Begun) (m : Mean) (v x : View) (o : Option Channel) → c < length m.records → ((d : Channel) → o ≡ Some d → Serves c b m d)
     → SentAll (requested m o) v x → Both c b m v → Alone c b (record_of (served m o) c) x (dues (served m o).flight)
 serve_all c b m v x None inside serves sent both = subst (λ (y : View). Alone c b (record_of m c) y (dues m.flight)) (sym sent) both.alone
 serve_all c b m v x (Some d) inside serves sent both =
@@ -190,7 +189,7 @@ fits_like r o program sent fits =
       unsent = subst (λ (p : Stored). r.counts.sent ≤ p.last - p.first) (sym program) (subst (λ (n : ℕ). n ≤ o.program.last - o.program.first) (sym sent) fits.unsent);
     }
 
-pub serviced_chosen : (m : State) (d : Channel) → serviced m ≡ Some d → chosen m.singles m.blocks m.after_single ≡ Some d
+pub serviced_chosen : (m : Mean) (d : Channel) → serviced m ≡ Some d → chosen m.singles m.blocks m.after_single ≡ Some d
 serviced_chosen m d = go (ltb (length m.flight) 4)
   where
     go : (b : Bool) → cond b (chosen m.singles m.blocks m.after_single) None ≡ Some d → chosen m.singles m.blocks m.after_single ≡ Some d
@@ -198,10 +197,10 @@ serviced_chosen m d = go (ltb (length m.flight) 4)
     go false e = absurd (let z : ◌≡◌ {A = ℕ} 0 1 = cc in omega arith)
 
 -- no running channel's program conflicts with this one
-abbrev pub Free : ℕ → Begun → State → Type 0
+abbrev pub Free : ℕ → Begun → Mean → Type 0
 Free c b m = (d : ℕ) → d < 16 → (d ≡ c → ⊥) → (record_of m d).flags.running ≡ true → Conflict b.program (record_of m d).program → ⊥
 
-serves_after : (c : ℕ) (b : Begun) (m n : State) (v : View) (d : Channel) → Sound m v → Free c b m → Left m n → serviced n ≡ Some d → Serves c b n d
+serves_after : (c : ℕ) (b : Begun) (m n : Mean) (v : View) (d : Channel) → Sound m v → Free c b m → Left m n → serviced n ≡ Some d → Serves c b n d
 serves_after c b m n v d sound free left e =
     let pick = chosen_stands d n.singles n.blocks n.after_single (serviced_chosen n d e)
     (subst ChannelsFit (sym left.singles) sound.singles_fit) (subst ChannelsFit (sym left.blocks) sound.blocks_fit) in
@@ -215,11 +214,11 @@ serves_after c b m n v d sound free left e =
       free = λ other conflict. free d.0 pick.1 other (stands_run m d.0 fine stands) (subst (Conflict b.program) program conflict);
     }
 
-pub alone_turn : {m n : State} {v w : View} {t : Turned} (c : ℕ) (b : Begun) → c < 16 → Turns t m n v w → Sound m v → Free c b m
+pub alone_turn : {m n : Mean} {v w : View} {t : Turned} (c : ℕ) (b : Begun) → c < 16 → Turns t m n v w → Sound m v → Free c b m
     → Ready c b (record_of m c) v (dues m.flight) → Alone c b (record_of m c) v (dues m.flight) → Alone c b (record_of n c) w (dues n.flight)
 alone_turn {m} {n} {v} {w} {t} c b small turns sound free ready alone =
     let mid = landed m m.flight turns.answered in
     let after = land c b m v turns.between m.flight turns.answered small sound refl turns.takes (record { ready = ready; alone = alone }) in
     let inside : c < length mid.records = subst (λ (k : ℕ). c < k) (sym (after.left.wide ∙ sound.wide)) small in
-    subst (λ (o : State). Alone c b (record_of o c) w (dues o.flight)) (sym turns.after_is)
+    subst (λ (o : Mean). Alone c b (record_of o c) w (dues o.flight)) (sym turns.after_is)
     (serve_all c b mid turns.between w (serviced mid) inside (λ d. serves_after c b m mid v d sound free after.left) turns.sends after.both)

@@ -18,8 +18,7 @@ use Rattle.machine.proofs.TurnHalves.{set_cases}
 use Rattle.machine.proofs.TurnMeasure.{Left}
 use Rattle.machine.specs.Calls.{Refused, unless_refused, check_channel, check_place, check_sheet, check_program, check_reserved, check_resting, lowest_free, empty_window, reserve_state, release_refused, release_state, put_refused, put_state, fill_refused, fill_state, stored, empty_refused, start_refused, started, start_program, start_state, stop_refused, stop_state}
 use Rattle.machine.specs.Histories.{accepted, program_of, start_of, start_in, is_turn, starts_on}
-use Rattle.machine.specs.declared.state.State.{State}
-use Rattle.machine.specs.Means.{absent, cleared, record_of, with_record}
+use Rattle.machine.specs.Means.{Mean, absent, cleared, record_of, with_record}
 use Rattle.machine.specs.Soundness.{Sound, times, finals}
 use Rattle.machine.specs.Steps.{Call, reserve, release, put, fill, start, stop, quiet, wake, look, status, turn, Step, done_unless}
 use Rattle.machine.specs.declared.answer.Answer.{Answer}
@@ -50,7 +49,7 @@ undisturbed_rest r s rests too =
     }
 
 -- the channel c stands where it stood
-pub record Calm (m n : State) (c : ℕ) : Type 0 where
+pub record Calm (m n : Mean) (c : ℕ) : Type 0 where
   pub flight : n.flight ≡ m.flight
   pub after : n.after_single ≡ m.after_single
   pub singles : times c n.singles ≡ times c m.singles
@@ -59,7 +58,7 @@ pub record Calm (m n : State) (c : ℕ) : Type 0 where
   pub among_blocks : 0 < times c m.blocks → before c n.blocks ≡ before c m.blocks
   pub undisturbed : Undisturbed (record_of m c) (record_of n c)
 
-pub calm_lines : (m n : State) (c : ℕ) → n.flight ≡ m.flight → n.after_single ≡ m.after_single → n.singles ≡ m.singles → n.blocks ≡ m.blocks
+pub calm_lines : (m n : Mean) (c : ℕ) → n.flight ≡ m.flight → n.after_single ≡ m.after_single → n.singles ≡ m.singles → n.blocks ≡ m.blocks
     → Undisturbed (record_of m c) (record_of n c) → Calm m n c
 calm_lines m n c flight after singles blocks undisturbed =
     record {
@@ -72,20 +71,20 @@ calm_lines m n c flight after singles blocks undisturbed =
       undisturbed = undisturbed;
     }
 
-calm_same : (m : State) (c : ℕ) → Calm m m c
+calm_same : (m : Mean) (c : ℕ) → Calm m m c
 calm_same m c = calm_lines m m c refl refl refl refl (undisturbed_same _)
 
-undisturbed_set : (m : State) (d : ℕ) (s : Record) → Undisturbed (record_of m d) s → (c : ℕ) → Undisturbed (record_of m c) (record_of (with_record m d s) c)
+undisturbed_set : (m : Mean) (d : ℕ) (s : Record) → Undisturbed (record_of m d) s → (c : ℕ) → Undisturbed (record_of m c) (record_of (with_record m d s) c)
 undisturbed_set m d s kept c =
     let K : Record → Type 0 = λ x. Undisturbed (record_of m c) x in
     let L : ℕ → Type 0 = λ i. Undisturbed (record_of m i) s in
     ⊎_elim (λ e. subst K (sym e) (undisturbed_same _)) (λ (same, e). subst K (sym e) (subst L same kept)) (set_cases m.records d s c)
 
-calm_set : (m : State) (d : ℕ) (s : Record) → Undisturbed (record_of m d) s → (c : ℕ) → Calm m (with_record m d s) c
+calm_set : (m : Mean) (d : ℕ) (s : Record) → Undisturbed (record_of m d) s → (c : ℕ) → Calm m (with_record m d s) c
 calm_set m d s kept c = calm_lines m _ c refl refl refl refl (undisturbed_set m d s kept c)
 
 -- a bound on the turns left stays
-pub calm_left : (w : ℕ) (m n : State) (v : View) (c t : ℕ) → Calm m n c → (record_of m c).flags.running ≡ true → Left w m v c t → Left w n v c t
+pub calm_left : (w : ℕ) (m n : Mean) (v : View) (c t : ℕ) → Calm m n c → (record_of m c).flags.running ≡ true → Left w m v c t → Left w n v c t
 calm_left w m n v c t calm runs left =
     let program = calm.undisturbed.program runs in
     let counts = calm.undisturbed.counts runs in
@@ -97,7 +96,7 @@ calm_left w m n v c t calm runs left =
 
 -- EACH CALL
 
-unless_cases : (P : State → Type 0) (o : Refused) (was is : State) → P was → (o ≡ None → P is) → P (unless_refused o was is)
+unless_cases : (P : Mean → Type 0) (o : Refused) (was is : Mean) → P was → (o ≡ None → P is) → P (unless_refused o was is)
 unless_cases P None was is same other = other refl
 unless_cases P (Some f) was is same other = same
 
@@ -134,7 +133,7 @@ lowest_free_is (r ∷ rs) d e =
     later None is ih f = absurd (let z : ◌≡◌ {A = ℕ} 0 1 = cc in omega arith)
     later (Some i) is ih f = let z : suc i ≡ d = cc in subst (at r rs) z (ih i is)
 
-free_rests : (m : State) (v : View) → Sound m v → (d : ℕ) → lowest_free m.records ≡ Some d → (record_of m d).flags.running ≡ false
+free_rests : (m : Mean) (v : View) → Sound m v → (d : ℕ) → lowest_free m.records ≡ Some d → (record_of m d).flags.running ≡ false
 free_rests m v sound d free =
     ⊎_elim
     (λ within. ⊎_elim
@@ -144,35 +143,35 @@ free_rests m v sound d free =
     (λ past. ap (λ (r : Record). r.flags.running) (get_or_past m.records d absent (omega (arith, sound.wide))))
     (cases_lt d 16)
 
-calm_reserve : (m : State) (v : View) → Sound m v → (c : ℕ) → Calm m (reserve_state m) c
+calm_reserve : (m : Mean) (v : View) → Sound m v → (c : ℕ) → Calm m (reserve_state m) c
 calm_reserve m v sound c = go (lowest_free m.records) refl
   where
     go : (o : Option ℕ) → lowest_free m.records ≡ o → Calm m (elim o [ None ↦ m | Some d ↦ with_record m d (cleared true empty_window) ]) c
     go None is = calm_same m c
     go (Some d) is = calm_set m d _ (undisturbed_rest _ _ (free_rests m v sound d is) refl) c
 
-calm_unless : (m n : State) (c : ℕ) (o : Refused) → (o ≡ None → Calm m n c) → Calm m (unless_refused o m n) c
+calm_unless : (m n : Mean) (c : ℕ) (o : Refused) → (o ≡ None → Calm m n c) → Calm m (unless_refused o m n) c
 calm_unless m n c o = unless_cases (λ x. Calm m x c) o m n (calm_same m c)
 
-calm_release : (m : State) (d c : ℕ) → Calm m (unless_refused (release_refused m d) m (release_state m d)) c
+calm_release : (m : Mean) (d c : ℕ) → Calm m (unless_refused (release_refused m d) m (release_state m d)) c
 calm_release m d c =
     calm_unless m _ c _ (λ passed.
     let rests = (past_resting (record_of m d) None (past_reserved (record_of m d) _ (past_channel d _ passed).1)).0 in
     calm_set m d _ (undisturbed_rest _ _ rests refl) c)
 
-calm_put : (m : State) (d p x c : ℕ) → Calm m (unless_refused (put_refused m d p) m (put_state m d p x)) c
+calm_put : (m : Mean) (d p x c : ℕ) → Calm m (unless_refused (put_refused m d p) m (put_state m d p x)) c
 calm_put m d p x c =
     calm_unless m _ c _ (λ passed.
     let rests = (past_resting (record_of m d) None (past_reserved (record_of m d) _ (past_place p _ (past_channel d _ passed).1))).0 in
     calm_set m d _ (undisturbed_rest _ _ rests rests) c)
 
-calm_fill : (m : State) (d : ℕ) (bytes : List ℕ) (c : ℕ) → Calm m (unless_refused (fill_refused m d bytes) m (fill_state m d bytes)) c
+calm_fill : (m : Mean) (d : ℕ) (bytes : List ℕ) (c : ℕ) → Calm m (unless_refused (fill_refused m d bytes) m (fill_state m d bytes)) c
 calm_fill m d bytes c =
     calm_unless m _ c _ (λ passed.
     let rests = (past_resting (record_of m d) None (past_reserved (record_of m d) _ (past_sheet (sheet_check bytes) _ (past_channel d _ passed).1))).0 in
     calm_set m d _ (undisturbed_rest _ _ rests rests) c)
 
-calm_stop : (m : State) (d c : ℕ) → Calm m (unless_refused (stop_refused m d) m (stop_state m d)) c
+calm_stop : (m : Mean) (d c : ℕ) → Calm m (unless_refused (stop_refused m d) m (stop_state m d)) c
 calm_stop m d c =
     calm_unless m _ c _ (λ passed.
     calm_set m d _
@@ -184,7 +183,7 @@ joined : (c : ℕ) (d : Channel) (ds : List Channel) → (d.0 ≡ c → ⊥)
     → (times c (ds ++ d ∷ []) ≡ times c ds) × (0 < times c ds → before c (ds ++ d ∷ []) ≡ before c ds)
 joined c d ds apart = (times_append c ds (d ∷ []) ∙ grind (arith, nat_tests), before_append c ds (d ∷ []))
 
-calm_started : (m : State) (d : ℕ) (p : Stored) (c : ℕ) → (d ≡ c → ⊥) → Calm m (start_program m d p) c
+calm_started : (m : Mean) (d : ℕ) (p : Stored) (c : ℕ) → (d ≡ c → ⊥) → Calm m (start_program m d p) c
 calm_started m d p c apart =
     let s : List Channel = m.singles ++ record { 0 = d } ∷ [] in
     let b : List Channel = m.blocks ++ record { 0 = d } ∷ [] in
@@ -202,14 +201,14 @@ calm_started m d p c apart =
     }
 
 -- the channel runs, and nothing final of it is in flight
-abbrev pub Begins : State → ℕ → Type 0
+abbrev pub Begins : Mean → ℕ → Type 0
 Begins n c = ((record_of n c).flags.running ≡ true) × (finals c n.flight ≡ 0)
 
 -- what an accepted start leaves of the other channels, and of its own
-abbrev Starting : State → ℕ → ℕ → Option Stored → State → Type 0
+abbrev Starting : Mean → ℕ → ℕ → Option Stored → Mean → Type 0
 Starting m d c p n = (starts_on c (start_of d p) ≡ false → Calm m n c) × (starts_on c (start_of d p) ≡ true → Begins n c)
 
-start_accepted : (m : State) (v : View) → Sound m v → (d : ℕ) (w : Words) (c : ℕ) → c < 16 → start_refused m d w ≡ None → Starting m d c (program_of w) (start_state m d w)
+start_accepted : (m : Mean) (v : View) → Sound m v → (d : ℕ) (w : Words) (c : ℕ) → c < 16 → start_refused m d w ≡ None → Starting m d c (program_of w) (start_state m d w)
 start_accepted m v sound d w c within passed = go (read_program w) (past_channel d _ passed).1
   where
     go : (r : Result Program ProgramFault)
@@ -230,21 +229,21 @@ start_accepted m v sound d w c within passed = go (read_program w) (past_channel
 
 -- EVERY CALL BUT TURN
 
-start_step : (m : State) (v : View) → Sound m v → (d : ℕ) (w : Words) (c : ℕ) → c < 16 → (o : Refused) → start_refused m d w ≡ o
+start_step : (m : Mean) (v : View) → Sound m v → (d : ℕ) (w : Words) (c : ℕ) → c < 16 → (o : Refused) → start_refused m d w ≡ o
     → (starts_on c (start_in (start d w) (accepted (done_unless o))) ≡ false → Calm m (unless_refused o m (start_state m d w)) c)
     × (starts_on c (start_in (start d w) (accepted (done_unless o))) ≡ true → Begins (unless_refused o m (start_state m d w)) c)
 start_step m v sound d w c within None is = start_accepted m v sound d w c within is
 start_step m v sound d w c within (Some f) is = ((λ _. calm_same m c), (λ e. absurd (let z : ◌≡◌ {A = ℕ} 0 1 = cc in omega arith)))
 
 -- a call other than turn leaves the memory as it is; it leaves each running channel where it is, or starts it
-pub call_step : (x : Call) (a : Answer) (m n : State) (v u : View) → Sound m v → Step x a m v n u → is_turn x ≡ 0 → (c : ℕ) → c < 16
+pub call_step : (x : Call) (a : Answer) (m n : Mean) (v u : View) → Sound m v → Step x a m v n u → is_turn x ≡ 0 → (c : ℕ) → c < 16
     → (u ≡ v) × (starts_on c (start_in x (accepted a)) ≡ false → Calm m n c) × (starts_on c (start_in x (accepted a)) ≡ true → Begins n c)
 call_step x a m n v u sound step quieter c within = go x step quieter
   where
     none : starts_on c None ≡ true → Begins n c
     none e = absurd (let z : ◌≡◌ {A = ℕ} 0 1 = cc in omega arith)
 
-    is_calm : (k : State) → n ≡ k → Calm m k c → starts_on c None ≡ false → Calm m n c
+    is_calm : (k : Mean) → n ≡ k → Calm m k c → starts_on c None ≡ false → Calm m n c
     is_calm k e calm _ = subst (λ y. Calm m y c) (sym e) calm
 
     go : (x : Call) → Step x a m v n u → is_turn x ≡ 0

@@ -12,8 +12,7 @@ use Rattle.program.specs.Pieces.{count_up}
 use Rattle.machine.proofs.TurnCounts.{finals_append}
 use Rattle.machine.proofs.TurnHalves.{Between, between, Kept, Timely, set_cases}
 use Rattle.machine.proofs.TurnServices.{Chosen, nobody, single, block, who_between, first_single, first_block, once_placed}
-use Rattle.machine.specs.declared.state.State.{State}
-use Rattle.machine.specs.Means.{absent, record_of}
+use Rattle.machine.specs.Means.{Mean, absent, record_of}
 use Rattle.machine.specs.Soundness.{Sound, times, finals, dues, places_due, still_due}
 use Rattle.operators.specs.Modes.{mode_wants_reply}
 use Rattle.machine.specs.Turns.{landed_record, landed, serviced, next_piece, final, served_record, serve, served, Turns}
@@ -23,13 +22,13 @@ use Rattle.machine.specs.declared.record.Record.{Record}
 use Rattle.machine.specs.declared.record.Stored.{Stored}
 
 -- a final piece in flight of a channel that was not stopped holds its last place
-abbrev pub Complete : State → ℕ → Type 0
+abbrev pub Complete : Mean → ℕ → Type 0
 Complete m c = 0 < finals c m.flight → (record_of m c).flags.stop ≡ false → (record_of m c).counts.sent ≡ (record_of m c).program.last + 1 - (record_of m c).program.first
 
 -- SERVICE
 
 -- what a service leaves of a channel: all, or it was the channel served
-abbrev Touch : State → State → State → ℕ → Type 0
+abbrev Touch : Mean → Mean → Mean → ℕ → Type 0
 Touch m k n c =
     ((record_of n c ≡ record_of k c) × (finals c n.flight ≡ finals c k.flight))
     ⊎ ((0 < times c m.singles + times c m.blocks) × (record_of n c ≡ served_record (record_of k c)) × (finals c n.flight ≤ finals c k.flight + bool_byte (final (record_of k c))))
@@ -42,7 +41,7 @@ finals_own : (c : ℕ) (replies : Bool) (ps : List Piece) (p : Piece) → finals
 finals_own c true ps p = let e = finals_append c ps (p ∷ []) in grind (arith, nat_tests)
 finals_own c false ps p = omega arith
 
-module _ (w : ℕ) (m k : State) (v x : View) (sound : Sound m v) (mid : Between w m k v x) (c : ℕ) where
+module _ (w : ℕ) (m k : Mean) (v x : View) (sound : Sound m v) (mid : Between w m k v x) (c : ℕ) where
   touch_serve : (d : Channel) → d.0 < 16 → 0 < times d.0 m.singles + times d.0 m.blocks → Touch m k (serve k d (record_of k d.0)) c
   touch_serve d within there =
       let n = serve k d (record_of k d.0) in
@@ -77,10 +76,10 @@ served_all r ordered last on =
 -- LANDING
 
 -- the flight's first piece may be the channel's
-abbrev Landed : State → State → ℕ → Type 0
+abbrev Landed : Mean → Mean → ℕ → Type 0
 Landed m k c = (record_of k c ≡ record_of m c) ⊎ ((p : Piece) × (ps : List Piece) × (reply : Option ℕ) × (m.flight ≡ p ∷ ps) × (p.channel.0 ≡ c) × (record_of k c ≡ landed_record p reply (record_of m c)))
 
-land_record : (m : State) (t : Taken) (c : ℕ) → Landed m (landed m m.flight t) c
+land_record : (m : Mean) (t : Taken) (c : ℕ) → Landed m (landed m m.flight t) c
 land_record m t c = go m.flight refl t
   where
     go : (ps : List Piece) → m.flight ≡ ps → (t : Taken) → Landed m (landed m ps t) c
@@ -97,7 +96,7 @@ length_up zero a = refl
 length_up (suc n) a = ap suc (length_up n (a + 1))
 
 -- the last reply of a final piece is the channel's last one due
-last_due : (m : State) (v : View) → Sound m v → (c : ℕ) → c < 16 → (p : Piece) (ps : List Piece) → m.flight ≡ p ∷ ps → p.channel.0 ≡ c → p.last ≡ true → p.due ≡ 1
+last_due : (m : Mean) (v : View) → Sound m v → (c : ℕ) → c < 16 → (p : Piece) (ps : List Piece) → m.flight ≡ p ∷ ps → p.channel.0 ≡ c → p.last ≡ true → p.due ≡ 1
     → (record_of m c).counts.sent ≡ (record_of m c).counts.landed + 1
 last_due m v sound c within p ps is own last one =
     let none : places_due c (dues ps) ≡ [] = ap (λ (i : ℕ). places_due i (dues ps)) (sym own) ∙ (rw is at sound.finals_last).0 last in
@@ -118,7 +117,7 @@ ended true false b runs e = absurd (let z : ◌≡◌ {A = ℕ} 0 1 = cc in omeg
 ended false a b runs e = absurd (let z : ◌≡◌ {A = ℕ} 0 1 = cc in omega arith)
 
 -- how the program of a channel ends: with its final piece in flight, or with a final piece that has no replies
-abbrev pub Ending : State → State → ℕ → Type 0
+abbrev pub Ending : Mean → Mean → ℕ → Type 0
 Ending m n c =
     ((0 < finals c m.flight) × ((record_of n c).counts.landed ≡ (record_of n c).counts.sent) × ((record_of n c).counts.sent ≡ (record_of m c).counts.sent))
     ⊎ ((mode_wants_reply (record_of m c).program.mode ≡ false)
@@ -127,9 +126,9 @@ Ending m n c =
 finals_first : (c : ℕ) (p : Piece) (ps : List Piece) → p.channel.0 ≡ c → p.last ≡ true → 0 < finals c (p ∷ ps)
 finals_first c p ps own last = grind (arith, nat_tests)
 
-module _ (a : Turned) (m n : State) (v u : View) (turns : Turns a m n v u) (sound : Sound m v) (timely : Timely v) (c : ℕ) (within : c < 16) where
+module _ (a : Turned) (m n : Mean) (v u : View) (turns : Turns a m n v u) (sound : Sound m v) (timely : Timely v) (c : ℕ) (within : c < 16) where
   -- what stands after the landing
-  abbrev halfway : State
+  abbrev halfway : Mean
   halfway = landed m m.flight turns.answered
 
   mid : Between longest m halfway v turns.between

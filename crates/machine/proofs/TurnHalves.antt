@@ -9,8 +9,7 @@ use Rattle.memory.specs.declared.request.Request.{Request}
 use Rattle.memory.specs.declared.request.Taken.{Taken}
 use Rattle.memory.specs.declared.request.Taken.TheVariants as taken
 use Rattle.machine.proofs.TurnCounts.{turns_to, turns_wait, turns_land, total, length_dues, in_flight, reach, reach_some, until_room, land_fit, land_length, land_total, land_finals, land_reach, land_room}
-use Rattle.machine.specs.declared.state.State.{State}
-use Rattle.machine.specs.Means.{absent, record_of}
+use Rattle.machine.specs.Means.{Mean, absent, record_of}
 use Rattle.machine.specs.Soundness.{Sound, finals, PiecesFit}
 use Rattle.machine.specs.Turns.{landed, land_piece, landed_record, flight_after, SentAll, TakenOnce}
 use Rattle.machine.specs.declared.piece.Piece.{Piece}
@@ -74,7 +73,7 @@ sent_waits (q ∷ qs) v u (x, (s, more)) some =
 -- LANDING
 
 -- what stands between landing and service, where no wait is longer than w
-pub record Between (w : ℕ) (m n : State) (v u : View) : Type 0 where
+pub record Between (w : ℕ) (m n : Mean) (v u : View) : Type 0 where
   pub singles : n.singles ≡ m.singles
   pub blocks : n.blocks ≡ m.blocks
   pub after : n.after_single ≡ m.after_single
@@ -90,7 +89,7 @@ pub record Between (w : ℕ) (m n : State) (v u : View) : Type 0 where
   -- the same until there is room, unless there is
   pub full : 4 ≤ length n.flight → turns_to w (until_room n.flight) u.wait + 1 ≤ turns_to w (until_room m.flight) v.wait
 
-between_same : (w : ℕ) (m : State) (v u : View) → PiecesFit m.flight → length m.flight ≤ 4 → length u.transit ≡ total m.flight → Timely u
+between_same : (w : ℕ) (m : Mean) (v u : View) → PiecesFit m.flight → length m.flight ≤ 4 → length u.transit ≡ total m.flight → Timely u
     → ((n : ℕ) → 0 < length m.flight → 1 ≤ n → turns_to w n u.wait + 1 ≤ turns_to w n v.wait) → Between w m m v u
 between_same w m v u fit few tied timely less =
     record {
@@ -112,7 +111,7 @@ between_same w m v u fit few tied timely less =
     until_some [] fits four = absurd (omega arith)
     until_some (p ∷ ps) (within, more, eight, fits) four = grind (arith, nat_tests)
 
-between_reply : (w : ℕ) → longest ≤ w → (m : State) (p : Piece) (ps : List Piece) (reply : Option ℕ) (v u : View) → m.flight ≡ p ∷ ps → PiecesFit (p ∷ ps) → length (p ∷ ps) ≤ 4
+between_reply : (w : ℕ) → longest ≤ w → (m : Mean) (p : Piece) (ps : List Piece) (reply : Option ℕ) (v u : View) → m.flight ≡ p ∷ ps → PiecesFit (p ∷ ps) → length (p ∷ ps) ≤ 4
     → length v.transit ≡ total (p ∷ ps) → length v.transit ≡ suc (length u.transit) → v.wait ≡ 0 → u.wait ≤ longest → Between w m (land_piece m p ps reply) v u
 between_reply w long m p ps reply v u is fit few tied first none short =
     record {
@@ -139,7 +138,7 @@ between_reply w long m p ps reply v u is fit few tied first none short =
         let less = land_room p ps fit.1 few four in
         rw (none, less.1) (turns_land w (until_room (flight_after p ps)) u.wait less.0 (omega arith))
 
-pub between : (w : ℕ) → longest ≤ w → (m : State) (v u : View) (t : Taken) → Sound m v → Timely v → TakenOnce m.flight t v u → Between w m (landed m m.flight t) v u
+pub between : (w : ℕ) → longest ≤ w → (m : Mean) (v u : View) (t : Taken) → Sound m v → Timely v → TakenOnce m.flight t v u → Between w m (landed m m.flight t) v u
 between w long m v u t sound timely takes = go m.flight refl t takes
   where
     fitted : PiecesFit m.flight

@@ -8,15 +8,14 @@ use Rattle.numbers.specs.declared.channel.Channel.{Channel}
 use Rattle.machine.proofs.TurnCounts.{turns_to, turns_some, turns_most, line_turns, line_service, line_final, line_most, before_within, byte_few, total, length_dues, in_flight, reach, reach_few, until_room, until_few}
 use Rattle.machine.proofs.TurnHalves.{Between, between, Timely, sent_timely, sent_waits}
 use Rattle.machine.proofs.TurnServices.{single_services, block_services, Served, outcome, Chosen, who_between, once_placed, blocks_short, singles_short, kept_pieces}
-use Rattle.machine.specs.declared.state.State.{State}
-use Rattle.machine.specs.Means.{record_of}
+use Rattle.machine.specs.Means.{Mean, record_of}
 use Rattle.machine.specs.Soundness.{Sound, times, finals, PiecesFit}
 use Rattle.machine.specs.Turns.{serviced, served, requested, SentAll, Turns}
 use Rattle.machine.specs.declared.answer.Turned.{Turned}
 use Rattle.machine.specs.declared.piece.Piece.{Piece}
 
 -- the channel c ends within t turns, where no wait is longer than w
-pub record Left (w : ℕ) (m : State) (v : View) (c t : ℕ) : Type 0 where
+pub record Left (w : ℕ) (m : Mean) (v : View) (c t : ℕ) : Type 0 where
   pub flying : 0 < finals c m.flight → turns_to w (reach c m.flight) v.wait ≤ t
   pub single : 0 < times c m.singles → line_turns w (single_services m c) (turns_to w (until_room m.flight) v.wait) ≤ t
   pub block : 0 < times c m.blocks → line_turns w (block_services m c) (turns_to w (until_room m.flight) v.wait) ≤ t
@@ -28,24 +27,24 @@ some_due [] fit some = absurd (omega arith)
 some_due (p ∷ ps) (within, one, few, fit) some = omega arith
 
 -- where pieces are in flight, the wait is at most the longest
-wait_short : (w : ℕ) → longest ≤ w → (m : State) (v : View) → Sound m v → Timely v → 0 < length m.flight → v.wait ≤ w
+wait_short : (w : ℕ) → longest ≤ w → (m : Mean) (v : View) → Sound m v → Timely v → 0 < length m.flight → v.wait ≤ w
 wait_short w long m v sound timely some =
     let due = some_due m.flight sound.pieces_fit some in
     let e = length_dues m.flight in
     omega (arith, timely (omega (arith, sound.tied)))
 
-room_most : (w : ℕ) → longest ≤ w → (m : State) (v : View) → Sound m v → Timely v → turns_to w (until_room m.flight) v.wait ≤ 8 * (w + 1)
+room_most : (w : ℕ) → longest ≤ w → (m : Mean) (v : View) → Sound m v → Timely v → turns_to w (until_room m.flight) v.wait ≤ 8 * (w + 1)
 room_most w long m v sound timely =
     ⊎_elim
     (λ room. rw (lt-ltb (length m.flight) 4 room) (omega arith))
     (λ full. turns_most w _ _ 8 (omega arith) (until_few m.flight sound.pieces_fit) (wait_short w long m v sound timely (omega arith)))
     (cases_lt (length m.flight) 4)
 
-flying_most : (w : ℕ) → longest ≤ w → (m : State) (v : View) → Sound m v → Timely v → (c : ℕ) → 0 < finals c m.flight → turns_to w (reach c m.flight) v.wait ≤ 32 * (w + 1)
+flying_most : (w : ℕ) → longest ≤ w → (m : Mean) (v : View) → Sound m v → Timely v → (c : ℕ) → 0 < finals c m.flight → turns_to w (reach c m.flight) v.wait ≤ 32 * (w + 1)
 flying_most w long m v sound timely c there =
     turns_most w _ _ 32 (omega arith) (omega (arith, reach_few c m.flight sound.pieces_fit, sound.few)) (wait_short w long m v sound timely (in_flight c m.flight there))
 
-pub left_most : (w : ℕ) → longest ≤ w → (m : State) (v : View) → Sound m v → Timely v → (c : ℕ) → c < 16 → Left w m v c (8224 * (w + 1))
+pub left_most : (w : ℕ) → longest ≤ w → (m : Mean) (v : View) → Sound m v → Timely v → (c : ℕ) → c < 16 → Left w m v c (8224 * (w + 1))
 left_most w long m v sound timely c within =
     let room = room_most w long m v sound timely in
     record {
@@ -62,7 +61,7 @@ left_most w long m v sound timely c within =
     }
 
 -- a channel that runs has a turn left
-pub left_some : (w : ℕ) (m : State) (v : View) (c t : ℕ) → Sound m v → c < 16 → (record_of m c).flags.running ≡ true → Left w m v c t → 1 ≤ t
+pub left_some : (w : ℕ) (m : Mean) (v : View) (c t : ℕ) → Sound m v → c < 16 → (record_of m c).flags.running ≡ true → Left w m v c t → 1 ≤ t
 left_some w m v c t sound within runs left =
     let placed = (sound.channels c within).placed ∙ ap bool_byte runs in
     ⊎_elim
@@ -75,7 +74,7 @@ left_some w m v c t sound within runs left =
 
 -- A TURN
 
-module _ (w : ℕ) (long : longest ≤ w) (m k : State) (v x u : View) (sound : Sound m v) (mid : Between w m k v x) (c : ℕ) (within : c < 16) (t : ℕ) (left : Left w m v c (suc t)) where
+module _ (w : ℕ) (long : longest ≤ w) (m k : Mean) (v x u : View) (sound : Sound m v) (mid : Between w m k v x) (c : ℕ) (within : c < 16) (t : ℕ) (left : Left w m v c (suc t)) where
   stays_flying : 0 < finals c k.flight → turns_to w (reach c k.flight) x.wait ≤ t
   stays_flying there =
       let once = once_placed m v sound c within in
@@ -110,7 +109,7 @@ module _ (w : ℕ) (long : longest ≤ w) (m k : State) (v x u : View) (sound : 
       (λ none. line_final w _ _ t some (left.block (omega arith)))
       (cases_lt 0 (times c m.singles))
 
-  served_left : (n : State) (qs : List Request) → Served m k n c → SentAll qs x u → Sound n u → Timely u → Left w n u c t
+  served_left : (n : Mean) (qs : List Request) → Served m k n c → SentAll qs x u → Sound n u → Timely u → Left w n u c t
   served_left n qs did sends after timely =
       let room = room_most w long n u after timely in
       let some = turns_some w (until_room m.flight) v.wait in
@@ -140,15 +139,15 @@ module _ (w : ℕ) (long : longest ≤ w) (m k : State) (v x u : View) (sound : 
       (λ _. choice_left (who_between w m k v x mid))
       (λ full sends after timely. subst L (sym sends) (full_left (ltb-false (length k.flight) 4 full)))
 
-pub turn_timely : (a : Turned) (m n : State) (v u : View) → Turns a m n v u → Sound m v → Timely v → Timely u
+pub turn_timely : (a : Turned) (m n : Mean) (v u : View) → Turns a m n v u → Sound m v → Timely v → Timely u
 turn_timely a m n v u turns sound timely =
     sent_timely _ _ _ turns.sends (between longest (omega arith) m v turns.between turns.answered sound timely turns.takes).timely
 
-pub turn_left : (w : ℕ) → longest ≤ w → (a : Turned) (m n : State) (v u : View) → Turns a m n v u → Sound m v → Timely v → Sound n u
+pub turn_left : (w : ℕ) → longest ≤ w → (a : Turned) (m n : Mean) (v u : View) → Turns a m n v u → Sound m v → Timely v → Sound n u
     → (c : ℕ) → c < 16 → (t : ℕ) → Left w m v c (suc t) → Left w n u c t
 turn_left w long a m n v u turns sound timely after c within t left =
     let mid = between w long m v turns.between turns.answered sound timely turns.takes in
-    let P : State → Type 0 = λ y. Sound y u in
-    let L : State → Type 0 = λ y. Left w y u c t in
+    let P : Mean → Type 0 = λ y. Sound y u in
+    let L : Mean → Type 0 = λ y. Left w y u c t in
     subst L (sym turns.after_is)
     (service_left w long m _ v turns.between u sound mid c within t left turns.sends (subst P turns.after_is after) (turn_timely a m n v u turns sound timely))

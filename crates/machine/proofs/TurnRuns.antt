@@ -11,9 +11,8 @@ use Rattle.machine.proofs.TurnMeasure.{Left, left_most, left_some, turn_timely, 
 use Rattle.machine.specs.Calls.{status_word, empty_window}
 use Rattle.machine.specs.Histories.{now_seen, runs, accepted, start_in, starts_on, Begun, begun, sent_count, landed_count, is_turn, turns_since, stopped}
 use Rattle.machine.specs.Laws.{turn_bound, Ends, Bounded}
-use Rattle.machine.specs.declared.state.State.{State}
-use Rattle.machine.specs.Means.{absent, cleared, record_of}
-use Rattle.machine.specs.Soundness.{Sound, new_state, finals}
+use Rattle.machine.specs.Means.{Mean, absent, cleared, record_of}
+use Rattle.machine.specs.Soundness.{Sound, new_mean, finals}
 use Rattle.machine.specs.Steps.{Call, reserve, release, put, fill, start, stop, quiet, wake, look, status, turn, Step, Seen, seen, History, Run, begin, next}
 use Rattle.operators.specs.Modes.{mode_wants_reply}
 use Rattle.machine.specs.declared.answer.Answer.{Answer}
@@ -21,7 +20,7 @@ use Rattle.machine.specs.declared.record.Record.{Record}
 use Rattle.machine.specs.declared.record.Stored.{Stored}
 
 -- bit 0 of a status word tells whether the channel runs
-pub runs_is : (m : State) (v : View) (c : ℕ) → runs (seen m v) c ≡ (record_of m c).flags.running
+pub runs_is : (m : Mean) (v : View) (c : ℕ) → runs (seen m v) c ≡ (record_of m c).flags.running
 runs_is m v c = go (record_of m c).flags.running refl
   where
     even : status_word m c % 2 ≡ bool_byte (record_of m c).flags.running % 2
@@ -32,14 +31,14 @@ runs_is m v c = go (record_of m c).flags.running refl
     go false is = ap (λ (n : ℕ). eqb n 1) (even ∙ ap (λ (b : Bool). bool_byte b % 2) is)
 
 -- what a history tells of the state that it leads to
-pub record Linked (h : History) (m : State) : Type 0 where
+pub record Linked (h : History) (m : Mean) : Type 0 where
   pub sent : (c : ℕ) → c < 16 → (record_of m c).counts.sent ≡ sent_count c h
   pub landed : (c : ℕ) → c < 16 → (record_of m c).counts.landed ≡ landed_count c h
   pub stop : (c : ℕ) → c < 16 → (record_of m c).flags.running ≡ true → (record_of m c).flags.stop ≡ stopped c h
   pub program : (c : ℕ) → c < 16 → (record_of m c).flags.running ≡ true → (b : Begun) × ((begun c h ≡ Some b) × ((record_of m c).program ≡ b.program))
 
 -- what holds all along a run, where no wait is longer than w
-pub record Going (w : ℕ) (h : History) (m : State) (v : View) : Type 0 where
+pub record Going (w : ℕ) (h : History) (m : Mean) (v : View) : Type 0 where
   pub sound : Sound m v
   pub timely : Timely v
   pub soon : (c : ℕ) → c < 16 → (record_of m c).flags.running ≡ true → (t : ℕ) × (Left w m v c t × (turns_since c h + t ≤ 8224 * (w + 1)))
@@ -65,12 +64,12 @@ which (status c) = inl refl
 which turn = inr refl
 
 -- a channel with a final piece in flight runs
-flying_runs : (m : State) (v : View) → Sound m v → (c : ℕ) → c < 16 → 0 < finals c m.flight → (record_of m c).flags.running ≡ true
+flying_runs : (m : Mean) (v : View) → Sound m v → (c : ℕ) → c < 16 → 0 < finals c m.flight → (record_of m c).flags.running ≡ true
 flying_runs m v sound c within there =
     ⊎_elim (λ e. e) (λ e. absurd (let z : bool_byte (record_of m c).flags.running ≡ 0 = ap bool_byte e in omega (arith, (sound.channels c within).placed)))
     (cases_Bool (record_of m c).flags.running)
 
-calm_complete : (m n : State) (v : View) → Sound m v → (c : ℕ) → c < 16 → Calm m n c → Complete m c → Complete n c
+calm_complete : (m n : Mean) (v : View) → Sound m v → (c : ℕ) → c < 16 → Calm m n c → Complete m c → Complete n c
 calm_complete m n v sound c within calm complete there on =
     let was : 0 < finals c m.flight = rw calm.flight at there in
     let runs = flying_runs m v sound c within was in
@@ -78,7 +77,7 @@ calm_complete m n v sound c within calm complete there on =
     rw (kept.program runs, kept.counts runs) (complete was (kept.stop runs on))
 
 module _ (w : ℕ) (long : longest ≤ w) where
-  call_going : (x : Call) (a : Answer) (h : History) (m n : State) (v u : View) → is_turn x ≡ 0 → Step x a m v n u → Sound n u → Going w h m v
+  call_going : (x : Call) (a : Answer) (h : History) (m n : Mean) (v u : View) → is_turn x ≡ 0 → Step x a m v n u → Sound n u → Going w h m v
       → Going w (record { call = x; answer = a; after = seen n u } ∷ h) n u
   call_going x a h m n v u none step after going =
       let did = call_step x a m n v u going.sound step none in
@@ -105,7 +104,7 @@ module _ (w : ℕ) (long : longest ≤ w) where
             (λ other. calm_complete m n v going.sound c within ((did c within).1 other) (going.complete c within));
       }
 
-  turn_going : (a : Answer) (h : History) (m n : State) (v u : View) → Step turn a m v n u → Sound n u → Going w h m v
+  turn_going : (a : Answer) (h : History) (m n : Mean) (v u : View) → Step turn a m v n u → Sound n u → Going w h m v
       → Going w (record { call = turn; answer = a; after = seen n u } ∷ h) n u
   turn_going a h m n v u (t, is, turns) after going =
       record {
@@ -122,7 +121,7 @@ module _ (w : ℕ) (long : longest ≤ w) where
       step c within zero some left past = absurd (omega arith)
       step c within (suc r) some left past = (r, (turn_left w long t m n v u turns going.sound going.timely after c within r left, omega arith))
 
-  step_going : (x : Call) (a : Answer) (h : History) (m n : State) (v u : View) → Step x a m v n u → Sound n u → Going w h m v
+  step_going : (x : Call) (a : Answer) (h : History) (m n : Mean) (v u : View) → Step x a m v n u → Sound n u → Going w h m v
       → Going w (record { call = x; answer = a; after = seen n u } ∷ h) n u
   step_going x a h m n v u step after going =
       let P : Call → Type 0 = λ y. Step y a m v n u → Going w (record { call = y; answer = a; after = seen n u } ∷ h) n u in
@@ -134,7 +133,7 @@ module _ (w : ℕ) (long : longest ≤ w) where
 -- THE END OF A PROGRAM
 
 -- only a turn ends a program
-ends_by_turn : (x : Call) (a : Answer) (m n : State) (v u : View) → Sound m v → Timely v → Step x a m v n u → (c : ℕ) → c < 16
+ends_by_turn : (x : Call) (a : Answer) (m n : Mean) (v u : View) → Sound m v → Timely v → Step x a m v n u → (c : ℕ) → c < 16
     → (record_of m c).flags.running ≡ true → (record_of n c).flags.running ≡ false → (x ≡ turn) × Ending m n c
 ends_by_turn x a m n v u sound timely step c within runs rests =
     let P : Call → Type 0 = λ y. Step y a m v n u → Ending m n c in
@@ -152,7 +151,7 @@ turn_stopped : (x : Call) (a : Answer) (s : Seen) (h : History) (c : ℕ) → x 
 turn_stopped x a s h c is = let P : Call → Type 0 = λ y. stopped c (record { call = y; answer = a; after = s } ∷ h) ≡ stopped c h in subst P (sym is) refl
 
 -- the program that was begun is the one that the record has
-same_program : (h : History) (m : State) → Linked h m → (c : ℕ) → c < 16 → (record_of m c).flags.running ≡ true → (b : Begun) → begun c h ≡ Some b → (record_of m c).program ≡ b.program
+same_program : (h : History) (m : Mean) → Linked h m → (c : ℕ) → c < 16 → (record_of m c).flags.running ≡ true → (b : Begun) → begun c h ≡ Some b → (record_of m c).program ≡ b.program
 same_program h m linked c within runs b is =
     let known = linked.program c within runs in
     let z : Some known.0 ≡ Some b = sym known.1.0 ∙ is in
@@ -161,19 +160,19 @@ same_program h m linked c within runs b is =
 
 -- ALL RUNS
 
-now_seen_is : {opening m : State} {cells v : View} {h : History} → Run opening cells h m v → now_seen (seen opening cells) h ≡ seen m v
+now_seen_is : {opening m : Mean} {cells v : View} {h : History} → Run opening cells h m v → now_seen (seen opening cells) h ≡ seen m v
 now_seen_is begin = refl
 now_seen_is (next run step) = refl
 
-new_rests : (c : ℕ) → c < 16 → (record_of new_state c).flags.running ≡ false
+new_rests : (c : ℕ) → c < 16 → (record_of new_mean c).flags.running ≡ false
 new_rests c within = ap (λ (r : Record). r.flags.running) (get_or-replicate 16 c (cleared false empty_window) absent within)
 
 module _
     (cells : View) (nothing : cells.transit ≡ [])
-    (sound_new : Sound new_state cells)
-    (sound_step : (x : Call) (a : Answer) (m n : State) (v u : View) → Step x a m v n u → Sound m v → Sound n u)
+    (sound_new : Sound new_mean cells)
+    (sound_step : (x : Call) (a : Answer) (m n : Mean) (v u : View) → Step x a m v n u → Sound m v → Sound n u)
   where
-    pub going : (w : ℕ) → longest ≤ w → {h : History} {m : State} {v : View} → Run new_state cells h m v → Going w h m v
+    pub going : (w : ℕ) → longest ≤ w → {h : History} {m : Mean} {v : View} → Run new_mean cells h m v → Going w h m v
     going w long begin =
         record {
           sound = sound_new;
@@ -186,7 +185,7 @@ module _
         step_going w long _ _ _ _ _ _ _ step (sound_step _ _ _ _ _ _ step past.sound) past
 
     -- no program still runs so many turns after its start
-    pub soon : {h : History} {m : State} {v : View} → Run new_state cells h m v → (c : ℕ) → c < 16 → runs (now_seen (seen new_state cells) h) c ≡ true → turns_since c h < turn_bound
+    pub soon : {h : History} {m : Mean} {v : View} → Run new_mean cells h m v → (c : ℕ) → c < 16 → runs (now_seen (seen new_mean cells) h) c ≡ true → turns_since c h < turn_bound
     soon {h} {m} {v} run c within told =
         let now = going longest (omega arith) run in
         let ran : (record_of m c).flags.running ≡ true = sym (runs_is m v c) ∙ ap (λ (s : Seen). runs s c) (sym (now_seen_is run)) ∙ told in
@@ -194,10 +193,10 @@ module _
         let some = left_some longest m v c left.0 now.sound within ran left.1.0 in
         omega (arith, left.1.1)
 
-    module _ (linked : (h : History) (m : State) (v : View) → Run new_state cells h m v → Linked h m) where
+    module _ (linked : (h : History) (m : Mean) (v : View) → Run new_mean cells h m v → Linked h m) where
       -- the latest event ended the program of the channel
-      module _ (x : Call) (a : Answer) (h : History) (m n : State) (v u : View) (run : Run new_state cells h m v) (step : Step x a m v n u) (c : ℕ) (within : c < 16)
-          (ends : Ends (seen new_state cells) c (record { call = x; answer = a; after = seen n u } ∷ h)) where
+      module _ (x : Call) (a : Answer) (h : History) (m n : Mean) (v u : View) (run : Run new_mean cells h m v) (step : Step x a m v n u) (c : ℕ) (within : c < 16)
+          (ends : Ends (seen new_mean cells) c (record { call = x; answer = a; after = seen n u } ∷ h)) where
         ran : (record_of m c).flags.running ≡ true
         ran = sym (runs_is m v c) ∙ ap (λ (s : Seen). runs s c) (sym (now_seen_is run)) ∙ ends.0
 
@@ -231,7 +230,7 @@ module _
             (λ (_, all). sym (link.sent c within) ∙ all on ∙ whole)
             by_turn.1
 
-      pub bounded : {h : History} {m : State} {v : View} → Run new_state cells h m v → Bounded (seen new_state cells) h
+      pub bounded : {h : History} {m : Mean} {v : View} → Run new_mean cells h m v → Bounded (seen new_mean cells) h
       bounded begin = record { soon = soon begin; none_due = λ c within b is ends. absurd ends; none_unsent = λ c within b is ends. absurd ends }
       bounded (next {h} {m} {n} {v} {w} {c} {a} run step) =
           record {

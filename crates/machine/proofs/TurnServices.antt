@@ -9,8 +9,7 @@ use Rattle.numbers.specs.declared.channel.Channel.{Channel}
 use Rattle.program.specs.Pieces.{boundary}
 use Rattle.machine.proofs.TurnCounts.{before, times_append, before_append, before_absent, before_within, byte_few, line_short, reach, finals_append, reach_append}
 use Rattle.machine.proofs.TurnHalves.{Between, Kept, set_cases}
-use Rattle.machine.specs.declared.state.State.{State}
-use Rattle.machine.specs.Means.{absent, record_of}
+use Rattle.machine.specs.Means.{Mean, absent, record_of}
 use Rattle.machine.specs.Soundness.{Sound, times, finals}
 use Rattle.machine.specs.Turns.{chosen, next_piece, final, served_record, rest, serve}
 use Rattle.machine.specs.declared.piece.Piece.{Piece}
@@ -23,10 +22,10 @@ pieces_after r = r.program.last / 8 - (r.program.first + r.counts.sent) / 8
 
 -- how many services come before that of the final piece of a channel, at the most: for one that waits as a single, and for one that
 -- waits as a block
-abbrev pub single_services : State → ℕ → ℕ
+abbrev pub single_services : Mean → ℕ → ℕ
 single_services m c = 2 * before c m.singles + bool_byte m.after_single
 
-abbrev pub block_services : State → ℕ → ℕ
+abbrev pub block_services : Mean → ℕ → ℕ
 block_services m c = 32 * pieces_after (record_of m c) + 2 * before c m.blocks + bool_byte (not m.after_single)
 
 -- THE NEXT PIECE
@@ -83,13 +82,13 @@ who (s ∷ ss) (b ∷ bs) true = block b bs refl (λ _. refl)
 who (s ∷ ss) (b ∷ bs) false = single s ss refl (λ _. refl)
 
 -- landing does not alter who is chosen
-pub who_between : (w : ℕ) (m k : State) (v u : View) → Between w m k v u → Chosen m.singles m.blocks m.after_single (chosen k.singles k.blocks k.after_single)
+pub who_between : (w : ℕ) (m k : Mean) (v u : View) → Between w m k v u → Chosen m.singles m.blocks m.after_single (chosen k.singles k.blocks k.after_single)
 who_between w m k v u mid = rw (mid.singles, mid.blocks, mid.after) (who m.singles m.blocks m.after_single)
 
 -- THE SERVICE
 
 -- each channel that still waits has one service less before it; one whose final piece is in flight had it there, or waited
-pub record Served (m k n : State) (c : ℕ) : Type 0 where
+pub record Served (m k n : Mean) (c : ℕ) : Type 0 where
   pub single : 0 < times c n.singles → (0 < times c m.singles) × (single_services n c + 1 ≤ single_services m c)
   pub block : 0 < times c n.blocks → (0 < times c m.blocks) × (block_services n c + 1 ≤ block_services m c)
   pub flying : 0 < finals c n.flight → ((0 < finals c k.flight) × (reach c n.flight ≡ reach c k.flight)) ⊎ (0 < times c m.singles + times c m.blocks)
@@ -97,21 +96,21 @@ pub record Served (m k n : State) (c : ℕ) : Type 0 where
 times_some : (c : ℕ) (ds : List Channel) → 0 < times c ds → 0 < length ds
 times_some c ds there = let e = before_within c ds there in omega arith
 
-single_gone : (m n : State) (c : ℕ) (s : Channel) (ss : List Channel) → m.singles ≡ s ∷ ss → n.singles ≡ ss → n.after_single ≡ true → times c m.singles ≤ 1
+single_gone : (m n : Mean) (c : ℕ) (s : Channel) (ss : List Channel) → m.singles ≡ s ∷ ss → n.singles ≡ ss → n.after_single ≡ true → times c m.singles ≤ 1
     → 0 < times c n.singles → (0 < times c m.singles) × (single_services n c + 1 ≤ single_services m c)
 single_gone m n c s ss was is after once = rw (is, after, was) (λ there. single_line_served c s ss m.after_single (rw was at once) there)
 
-single_passed : (m n : State) (c : ℕ) → n.singles ≡ m.singles → n.after_single ≡ false → (0 < length m.singles → m.after_single ≡ true)
+single_passed : (m n : Mean) (c : ℕ) → n.singles ≡ m.singles → n.after_single ≡ false → (0 < length m.singles → m.after_single ≡ true)
     → 0 < times c n.singles → (0 < times c m.singles) × (single_services n c + 1 ≤ single_services m c)
 single_passed m n c is after turn = rw (is, after) (λ there. (there, rw (turn (times_some c m.singles there)) (omega arith)))
 
-block_passed : (m n : State) (c : ℕ) → n.blocks ≡ m.blocks → n.after_single ≡ true → (0 < length m.blocks → m.after_single ≡ false)
+block_passed : (m n : Mean) (c : ℕ) → n.blocks ≡ m.blocks → n.after_single ≡ true → (0 < length m.blocks → m.after_single ≡ false)
     → (0 < times c m.blocks → pieces_after (record_of n c) ≡ pieces_after (record_of m c))
     → 0 < times c n.blocks → (0 < times c m.blocks) × (block_services n c + 1 ≤ block_services m c)
 block_passed m n c is after turn same =
     rw (is, after) (λ there. (there, rw (turn (times_some c m.blocks there)) (omega (arith, same there))))
 
-block_gone : (m n : State) (c : ℕ) (b : Channel) (bs : List Channel) (last : Bool) → m.blocks ≡ b ∷ bs → n.blocks ≡ blocks_after last b bs → n.after_single ≡ false
+block_gone : (m n : Mean) (c : ℕ) (b : Channel) (bs : List Channel) (last : Bool) → m.blocks ≡ b ∷ bs → n.blocks ≡ blocks_after last b bs → n.after_single ≡ false
     → times c m.blocks ≤ 1 → length m.blocks ≤ 16
     → ((b.0 ≡ c → ⊥) → pieces_after (record_of n c) ≡ pieces_after (record_of m c))
     → (b.0 ≡ c → last ≡ false → pieces_after (record_of n c) + 1 ≡ pieces_after (record_of m c))
@@ -143,36 +142,36 @@ flying_served c true ps p there =
     (cases_lt 0 (finals c ps))
 
 -- the first of each line
-pub first_single : (m : State) (v : View) (s : Channel) (ss : List Channel) → Sound m v → m.singles ≡ s ∷ ss → (s.0 < 16) × (0 < times s.0 m.singles) × ((record_of m s.0).program.single ≡ true)
+pub first_single : (m : Mean) (v : View) (s : Channel) (ss : List Channel) → Sound m v → m.singles ≡ s ∷ ss → (s.0 < 16) × (0 < times s.0 m.singles) × ((record_of m s.0).program.single ≡ true)
 first_single m v s ss sound is =
     let within : s.0 < 16 = (rw is at sound.singles_fit).0 in
     let there : 0 < times s.0 m.singles = rw is (times_head s ss) in
     (within, there, (sound.channels s.0 within).single_line there)
 
-pub first_block : (m : State) (v : View) (b : Channel) (bs : List Channel) → Sound m v → m.blocks ≡ b ∷ bs → (b.0 < 16) × (0 < times b.0 m.blocks) × ((record_of m b.0).program.single ≡ false)
+pub first_block : (m : Mean) (v : View) (b : Channel) (bs : List Channel) → Sound m v → m.blocks ≡ b ∷ bs → (b.0 < 16) × (0 < times b.0 m.blocks) × ((record_of m b.0).program.single ≡ false)
 first_block m v b bs sound is =
     let within : b.0 < 16 = (rw is at sound.blocks_fit).0 in
     let there : 0 < times b.0 m.blocks = rw is (times_head b bs) in
     (within, there, (sound.channels b.0 within).block_line there)
 
 -- a channel stands in one line only, and once
-pub once_placed : (m : State) (v : View) → Sound m v → (c : ℕ) → c < 16 → times c m.singles + times c m.blocks + finals c m.flight ≤ 1
+pub once_placed : (m : Mean) (v : View) → Sound m v → (c : ℕ) → c < 16 → times c m.singles + times c m.blocks + finals c m.flight ≤ 1
 once_placed m v sound c within = rw (sound.channels c within).placed (byte_few (record_of m c).flags.running)
 
-pub blocks_short : (m : State) (v : View) → Sound m v → length m.blocks ≤ 16
+pub blocks_short : (m : Mean) (v : View) → Sound m v → length m.blocks ≤ 16
 blocks_short m v sound = line_short m.blocks sound.blocks_fit (λ c within. omega (arith, once_placed m v sound c within))
 
-pub singles_short : (m : State) (v : View) → Sound m v → length m.singles ≤ 16
+pub singles_short : (m : Mean) (v : View) → Sound m v → length m.singles ≤ 16
 singles_short m v sound = line_short m.singles sound.singles_fit (λ c within. omega (arith, once_placed m v sound c within))
 
 pub kept_pieces : (r s : Record) → Kept r s → pieces_after s ≡ pieces_after r
 kept_pieces r s kept = rw (kept.program, kept.sent)
 
-abbrev pub Outcome : State → State → ℕ → Option Channel → Type 0
+abbrev pub Outcome : Mean → Mean → ℕ → Option Channel → Type 0
 Outcome m k c None = (m.singles ≡ []) × (m.blocks ≡ [])
 Outcome m k c (Some d) = Served m k (serve k d (record_of k d.0)) c
 
-module _ (w : ℕ) (m k : State) (v u : View) (sound : Sound m v) (mid : Between w m k v u) (c : ℕ) (within : c < 16) where
+module _ (w : ℕ) (m k : Mean) (v u : View) (sound : Sound m v) (mid : Between w m k v u) (c : ℕ) (within : c < 16) where
   record_served : (d : ℕ) → (d ≡ c → ⊥) → pieces_after (get_or (set k.records d (served_record (record_of k d))) c absent) ≡ pieces_after (record_of m c)
   record_served d apart =
       ⊎_elim (λ e. ap pieces_after e ∙ kept_pieces _ _ (mid.kept c)) (λ (same, _). absurd (apart same)) (set_cases k.records d (served_record (record_of k d)) c)

@@ -12,8 +12,7 @@ use Rattle.program.specs.declared.kind.Program.TheVariants.{Block, Single}
 use Rattle.program.specs.declared.layout.Words.{Words}
 use Rattle.sheet.specs.Sheets.{sheet_check, filled}
 use Rattle.sheet.specs.declared.fault.SheetFault.{SheetFault}
-use Rattle.machine.specs.declared.state.State.{State}
-use Rattle.machine.specs.Means.{Window, cleared, record_of, with_record, with_lines, with_flags, with_window}
+use Rattle.machine.specs.Means.{Mean, Window, cleared, record_of, with_record, with_lines, with_flags, with_window}
 use Rattle.machine.specs.declared.fault.ChannelFault.{ChannelFault}
 use Rattle.machine.specs.declared.fault.ChannelFault.TheVariants as fault
 use Rattle.machine.specs.declared.record.Record.{Record}
@@ -29,7 +28,7 @@ answered None x = Ok x
 answered (Some f) x = Err f
 
 -- what holds after a call: a refusal alters nothing
-abbrev pub unless_refused : Refused → State → State → State
+abbrev pub unless_refused : Refused → Mean → Mean → Mean
 unless_refused None before after = after
 unless_refused (Some f) before after = before
 
@@ -73,39 +72,39 @@ abbrev pub empty_window : Window
 empty_window = replicate 256 None
 
 -- the channel that reserve gives, or that none is free
-abbrev pub reserve_answer : State → Result Channel ChannelFault
+abbrev pub reserve_answer : Mean → Result Channel ChannelFault
 reserve_answer m = elim (lowest_free m.records) [ None ↦ Err fault.NoneFree | Some c ↦ Ok (record { 0 = c }) ]
 
 -- the channel that was given has an empty window and a clear record
-abbrev pub reserve_state : State → State
+abbrev pub reserve_state : Mean → Mean
 reserve_state m = elim (lowest_free m.records) [ None ↦ m | Some c ↦ with_record m c (cleared true empty_window) ]
 
 -- release frees a channel and clears its record; its window stays
-abbrev pub release_refused : State → ℕ → Refused
+abbrev pub release_refused : Mean → ℕ → Refused
 release_refused m c = check_channel c (check_reserved (record_of m c) (check_resting (record_of m c) None))
 
 -- the channel is free, its record clear and its window as it was
-abbrev pub release_state : State → ℕ → State
+abbrev pub release_state : Mean → ℕ → Mean
 release_state m c = with_record m c (cleared false (record_of m c).window)
 
 -- put writes one place
-abbrev pub put_refused : State → ℕ → ℕ → Refused
+abbrev pub put_refused : Mean → ℕ → ℕ → Refused
 put_refused m c p = check_channel c (check_place p (check_reserved (record_of m c) (check_resting (record_of m c) None)))
 
 -- the one place holds the word
-abbrev pub put_state : State → ℕ → ℕ → ℕ → State
+abbrev pub put_state : Mean → ℕ → ℕ → ℕ → Mean
 put_state m c p w = with_record m c (with_window (record_of m c) (slice_set (record_of m c).window p (Some w)))
 
 -- fill puts the words of a sheet into its places
-abbrev pub fill_refused : State → ℕ → List ℕ → Refused
+abbrev pub fill_refused : Mean → ℕ → List ℕ → Refused
 fill_refused m c bytes = check_channel c (check_sheet (sheet_check bytes) (check_reserved (record_of m c) (check_resting (record_of m c) None)))
 
 -- the places that the sheet names hold its words
-abbrev pub fill_state : State → ℕ → List ℕ → State
+abbrev pub fill_state : Mean → ℕ → List ℕ → Mean
 fill_state m c bytes = with_record m c (with_window (record_of m c) (filled bytes (record_of m c).window))
 
 -- look tells one place
-abbrev pub look_answer : State → ℕ → ℕ → Result ℕ ChannelFault
+abbrev pub look_answer : Mean → ℕ → ℕ → Result ℕ ChannelFault
 look_answer m c p =
     cond (nat_le c 15)
     (cond (nat_le p 255)
@@ -134,12 +133,12 @@ abbrev pub empty_refused : Stored → Window → Refused
 empty_refused p window = cond (sends_words p) (option_map fault.Empty (first_empty (p.last + 1 - p.first) p.first window)) None
 
 -- the checks of a start on a channel and a program that are known
-abbrev pub start_checks : State → ℕ → Stored → Refused
+abbrev pub start_checks : Mean → ℕ → Stored → Refused
 start_checks m c p =
     check_reserved (record_of m c) (check_resting (record_of m c) (cond m.quiet (Some fault.Quiet) (empty_refused p (record_of m c).window)))
 
 -- the checks of a start, in rising number
-abbrev pub start_refused : State → ℕ → Words → Refused
+abbrev pub start_refused : Mean → ℕ → Words → Refused
 start_refused m c w = check_channel c (check_program (read_program w) (λ p. start_checks m c (stored p)))
 
 -- start sets the channel running and both counts to 0, clears error and stop, and puts the channel at the end of its line
@@ -152,33 +151,33 @@ started p window = record {
 }
 
 -- the channel at the end of the line of its kind
-abbrev pub join_line : Bool → ℕ → State → State
+abbrev pub join_line : Bool → ℕ → Mean → Mean
 join_line single c m =
     with_lines m (cond single (m.singles ++ record { 0 = c } ∷ []) m.singles) (cond single m.blocks (m.blocks ++ record { 0 = c } ∷ []))
 
 -- the channel runs this program, at the end of its line
-abbrev pub start_program : State → ℕ → Stored → State
+abbrev pub start_program : Mean → ℕ → Stored → Mean
 start_program m c p = join_line p.single c (with_record m c (started p (record_of m c).window))
 
 -- the channel runs the program that the three words say
-abbrev pub start_state : State → ℕ → Words → State
+abbrev pub start_state : Mean → ℕ → Words → Mean
 start_state m c w = elim (read_program w) [ Ok p ↦ start_program m c (stored p) | Err f ↦ m ]
 
 -- stop marks a running channel
-abbrev pub stop_refused : State → ℕ → Refused
+abbrev pub stop_refused : Mean → ℕ → Refused
 stop_refused m c = check_channel c (check_reserved (record_of m c) (check_running (record_of m c) None))
 
 -- the stop mark is set, and all else stays
-abbrev pub stop_state : State → ℕ → State
+abbrev pub stop_state : Mean → ℕ → Mean
 stop_state m c = with_record m c (with_flags (record_of m c) (record (record_of m c).flags { stop = true }))
 
 -- status: 0 running, 1 error, 2 stop, 3 reserved, 4 to 7 the lowest free channel (0 if none), 8 none free, 9 quiet, 14 to 22 landed, 23 to 31 sent
-abbrev pub status_word : State → ℕ → ℕ
+abbrev pub status_word : Mean → ℕ → ℕ
 status_word m c =
     bool_byte (record_of m c).flags.running + bool_byte (record_of m c).flags.error * 2 + bool_byte (record_of m c).flags.stop * 4
     + bool_byte (record_of m c).flags.reserved * 8 + unwrap_or (lowest_free m.records) 0 * 16 + bool_byte (not (is_some (lowest_free m.records))) * 256
     + bool_byte m.quiet * 512 + (record_of m c).counts.landed * 2 ^ 14 + (record_of m c).counts.sent * 2 ^ 23
 
 -- the status word of a known channel
-abbrev pub status_answer : State → ℕ → Result ℕ ChannelFault
+abbrev pub status_answer : Mean → ℕ → Result ℕ ChannelFault
 status_answer m c = cond (nat_le c 15) (Ok (status_word m c)) (Err fault.NoChannel)

@@ -9,8 +9,8 @@ use Rattle.operators.specs.declared.choice.Choice.{Choice}
 use Rattle.operators.specs.declared.mode.Mode.{Mode}
 use Rattle.operators.specs.declared.mode.Mode.TheVariants.{Load, Store, Mp, Sync}
 use Rattle.machine.specs.Histories.{now_seen, runs, landed_told, sent_told, reserved_told, given_to, held, starts, Starts, Begun, begun, sent_count, landed_count, turns_since, stopped, touched, cell_at, Names, Clashes}
-use Rattle.machine.specs.declared.state.State.{State}
-use Rattle.machine.specs.Soundness.{new_state}
+use Rattle.machine.specs.Means.{Mean}
+use Rattle.machine.specs.Soundness.{new_mean}
 use Rattle.machine.specs.Steps.{Call, Step, Seen, seen, History, Run}
 use Rattle.machine.specs.declared.answer.Answer.{Answer}
 use Rattle.machine.specs.declared.answer.Answer.TheVariants as answer
@@ -170,13 +170,13 @@ pub record Law (opening : Seen) (h : History) : Type 0 where
   pub allotted : Allotted opening h
 
 -- What every call says of every run that it goes on from: the step that it makes, the longer run, and the law of that run.
-pub record Keeps (call : Call) (answer : Answer) (before : State) (was : View) (after : State) (is : View) : Type 0 where
+pub record Keeps (call : Call) (answer : Answer) (before : Mean) (was : View) (after : Mean) (is : View) : Type 0 where
   pub step : Step call answer before was after is
-  pub extends : (cells : View) (h : History) → Run new_state cells h before was → Run new_state cells (record { call = call; answer = answer; after = seen after is } ∷ h) after is
-  pub law : (cells : View) (h : History) → cells.transit ≡ [] → Run new_state cells h before was
-      → Law (seen new_state cells) (record { call = call; answer = answer; after = seen after is } ∷ h)
+  pub extends : (cells : View) (h : History) → Run new_mean cells h before was → Run new_mean cells (record { call = call; answer = answer; after = seen after is } ∷ h) after is
+  pub law : (cells : View) (h : History) → cells.transit ≡ [] → Run new_mean cells h before was
+      → Law (seen new_mean cells) (record { call = call; answer = answer; after = seen after is } ∷ h)
 
 -- What a new mover says: the empty run, and its law.
-pub record Opens (m : State) (v : View) : Type 0 where
-  pub run : Run new_state v [] m v
-  pub law : Law (seen new_state v) []
+pub record Opens (m : Mean) (v : View) : Type 0 where
+  pub run : Run new_mean v [] m v
+  pub law : Law (seen new_mean v) []

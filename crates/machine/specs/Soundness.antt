@@ -6,15 +6,14 @@ use Rattle.memory.specs.Views.{View}
 use Rattle.numbers.specs.declared.channel.Channel.{Channel}
 use Rattle.program.specs.Pieces.{count_up}
 use Rattle.machine.specs.Calls.{empty_window}
-use Rattle.machine.specs.declared.state.State.{State}
-use Rattle.machine.specs.Means.{record_of, cleared}
+use Rattle.machine.specs.Means.{Mean, record_of, cleared}
 use Rattle.operators.specs.Modes.{mode_wants_reply}
 use Rattle.machine.specs.declared.piece.Piece.{Piece}
 use Rattle.machine.specs.declared.record.Record.{Record}
 
 -- a new mover: all channels free, all windows empty, all records clear, both lines empty, no quiet mark, nothing served yet
-abbrev pub new_state : State
-new_state = record {
+abbrev pub new_mean : Mean
+new_mean = record {
   records = replicate 16 (cleared false empty_window);
   singles = [];
   blocks = [];
@@ -92,11 +91,11 @@ pub record Stands (r : Record) (s b f : ℕ) (places : List ℕ) : Type 0 where
   pub due : places ≡ count_up (still_due r) (r.program.first + r.counts.landed)
 
 -- what is known of one channel of a mover
-abbrev pub ChannelSound : State → ℕ → Type 0
+abbrev pub ChannelSound : Mean → ℕ → Type 0
 ChannelSound m c = Stands (record_of m c) (times c m.singles) (times c m.blocks) (finals c m.flight) (places_due c (dues m.flight))
 
 -- what is known of a mover over a memory of this meaning
-pub record Sound (m : State) (v : View) : Type 0 where
+pub record Sound (m : Mean) (v : View) : Type 0 where
   pub wide : length m.records ≡ 16
   pub channels : (c : ℕ) → c < 16 → ChannelSound m c
   pub singles_fit : ChannelsFit m.singles

@@ -4,8 +4,7 @@ use Rattle.memory.specs.Views.{View}
 use Rattle.numbers.specs.declared.channel.Channel.{Channel}
 use Rattle.program.specs.declared.layout.Words.{Words}
 use Rattle.machine.specs.Calls.{Refused, unless_refused, reserve_answer, reserve_state, release_refused, release_state, put_refused, put_state, fill_refused, fill_state, look_answer, start_refused, start_state, stop_refused, stop_state, status_answer, status_word}
-use Rattle.machine.specs.declared.state.State.{State}
-use Rattle.machine.specs.Means.{with_quiet}
+use Rattle.machine.specs.Means.{Mean, with_quiet}
 use Rattle.machine.specs.Turns.{Turns}
 use Rattle.machine.specs.declared.answer.Answer.{Answer}
 use Rattle.machine.specs.declared.answer.Answer.TheVariants as answer
@@ -47,7 +46,7 @@ given_or (Ok c) = answer.Given c
 given_or (Err f) = answer.Refused f
 
 -- one step: the answer, the state after, and the memory after
-abbrev pub Step : Call → Answer → State → View → State → View → Type 0
+abbrev pub Step : Call → Answer → Mean → View → Mean → View → Type 0
 Step reserve a m v n w = (a ≡ given_or (reserve_answer m)) × (n ≡ reserve_state m) × (w ≡ v)
 Step (release c) a m v n w = (a ≡ done_unless (release_refused m c)) × (n ≡ unless_refused (release_refused m c) m (release_state m c)) × (w ≡ v)
 Step (put c p x) a m v n w = (a ≡ done_unless (put_refused m c p)) × (n ≡ unless_refused (put_refused m c p) m (put_state m c p x)) × (w ≡ v)
@@ -67,7 +66,7 @@ pub record Seen : Type 0 where
   pub cell : ℕ → Option ℕ
 
 -- what is seen of a mover over a memory
-abbrev pub seen : State → View → Seen
+abbrev pub seen : Mean → View → Seen
 seen m v = record { look = look_answer m; status = status_word m; cell = v.cell }
 
 -- a call that was made, its answer, and what is seen after it
@@ -81,7 +80,7 @@ abbrev pub History : Type 0
 History = List Event
 
 -- the histories that calls make from an opening state
-pub data Run (opening : State) (cells : View) : History → State → View → Type 0 where
+pub data Run (opening : Mean) (cells : View) : History → Mean → View → Type 0 where
   begin : Run opening cells [] opening cells
-  next : {h : History} {m n : State} {v w : View} {c : Call} {a : Answer}
+  next : {h : History} {m n : Mean} {v w : View} {c : Call} {a : Answer}
       → Run opening cells h m v → Step c a m v n w → Run opening cells (record { call = c; answer = a; after = seen n w } ∷ h) n w

@@ -9,8 +9,7 @@ use Rattle.memory.specs.declared.request.Taken.TheVariants as taken
 use Rattle.numbers.specs.declared.channel.Channel.{Channel}
 use Rattle.operators.specs.Modes.{sending, mode_wants_reply}
 use Rattle.program.specs.Pieces.{Span, from_to, first_piece, span_len}
-use Rattle.machine.specs.declared.state.State.{State}
-use Rattle.machine.specs.Means.{record_of, with_record}
+use Rattle.machine.specs.Means.{Mean, record_of, with_record}
 use Rattle.machine.specs.declared.answer.Landing.{Landing}
 use Rattle.machine.specs.declared.answer.Landing.TheVariants as lands
 use Rattle.machine.specs.declared.answer.Service.{Service}
@@ -33,15 +32,15 @@ flight_after p rest =
     cond (p.due == 1) rest (record p { next = record { 0 = p.next.0 + 1 }; due = p.due - 1 } ∷ rest)
 
 -- the same with these pieces in flight
-abbrev pub with_flight : State → List Piece → State
+abbrev pub with_flight : Mean → List Piece → Mean
 with_flight m flight = record m { flight = flight }
 
 -- the state after a reply to the oldest piece
-abbrev pub land_piece : State → Piece → List Piece → Option ℕ → State
+abbrev pub land_piece : Mean → Piece → List Piece → Option ℕ → Mean
 land_piece m p rest reply = with_flight (with_record m p.channel.0 (landed_record p reply (record_of m p.channel.0))) (flight_after p rest)
 
 -- what the memory answered, if it was asked
-abbrev pub landed : State → List Piece → Taken → State
+abbrev pub landed : Mean → List Piece → Taken → Mean
 landed m [] t = m
 landed m (p ∷ rest) taken.Nothing = m
 landed m (p ∷ rest) taken.NotYet = m
@@ -62,7 +61,7 @@ chosen (s ∷ ss) [] after = Some s
 chosen (s ∷ ss) (b ∷ bs) after = cond after (Some b) (Some s)
 
 -- one is chosen if fewer than four pieces are in flight
-abbrev pub serviced : State → Option Channel
+abbrev pub serviced : Mean → Option Channel
 serviced m = cond (nat_lt (length m.flight) 4) (chosen m.singles m.blocks m.after_single) None
 
 -- the places of the channel's next piece
@@ -106,7 +105,7 @@ rest [] = []
 rest (x ∷ xs) = xs
 
 -- a LOAD or MP piece is then in flight; a block whose piece was not final goes to the end of its line
-abbrev pub serve : State → Channel → Record → State
+abbrev pub serve : Mean → Channel → Record → Mean
 serve m c r = record {
   records = slice_set m.records c.0 (served_record r);
   singles = cond r.program.single (rest m.singles) m.singles;
@@ -119,17 +118,17 @@ serve m c r = record {
 }
 
 -- the state after a service, if a channel was chosen
-abbrev pub served : State → Option Channel → State
+abbrev pub served : Mean → Option Channel → Mean
 served m None = m
 served m (Some c) = serve m c (record_of m c.0)
 
 -- what the service tells
-abbrev pub service : State → Option Channel → Option Service
+abbrev pub service : Mean → Option Channel → Option Service
 service m None = None
 service m (Some c) = Some (record { channel = c; requests = span_len (next_piece (record_of m c.0)) })
 
 -- the requests of a service
-abbrev pub requested : State → Option Channel → List Request
+abbrev pub requested : Mean → Option Channel → List Request
 requested m None = []
 requested m (Some c) = requests (record_of m c.0)
 
@@ -144,7 +143,7 @@ TakenOnce [] t before after = (t ≡ taken.Nothing) × (after ≡ before)
 TakenOnce (p ∷ ps) t before after = Takes t before after
 
 -- a turn, with what the memory answered and what it meant between landing and service
-pub record Turns (answer : Turned) (before after : State) (was is : View) : Type 0 where
+pub record Turns (answer : Turned) (before after : Mean) (was is : View) : Type 0 where
   pub answered : Taken
   pub between : View
   pub takes : TakenOnce before.flight answered was between

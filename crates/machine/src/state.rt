@@ -4,7 +4,7 @@ use numbers::channel::Channel;
 use queue::line::Queue;
 
 // All that the mover keeps, but for the hall memory.
-#[derive(Clone, Drop)]
+#[derive(Clone, Copy)]
 pub struct State {
     pub records: [Record; 16],
     // the channels that wait for service, first come first served

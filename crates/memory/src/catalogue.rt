@@ -1,5 +1,6 @@
 ghost use Rattle.std.specs.Prelude.{◌≡◌, ◌<◌, ◌≤◌, [], length, None, Ok};
 ghost use Rattle.numbers.specs.Rising.{not_rising};
+ghost use Rattle.queue.specs.Queues.{items};
 ghost use Rattle.memory.specs.Catalogues.{cell_of, catalogue_check, catalogue_view, wait_for, wait_left, entry_index, acted, Found, room_for, with_reply, wait_with};
 ghost use Rattle.memory.specs.Effects.{Sends, Takes};
 ghost use Rattle.memory.specs.Views.{room};
@@ -27,9 +28,9 @@ pub struct Catalogue {
     transit: Queue<Option<u32>, 32>,
     wait: u8,
     ghost rising: { not_rising cell_of entries.items ≡ None },
-    ghost few: { length transit ≤ room },
+    ghost few: { length (items transit) ≤ room },
     // no reply waits longer than it did when it became the first, and nothing waits for no reply
-    ghost short: { wait ≤ wait_for transit },
+    ghost short: { wait ≤ wait_for (items transit) },
 }
 
 impl Keyed for Entry {
@@ -57,7 +58,7 @@ impl Catalogue {
     // The memory of these entries, with nothing in transit. The check was passed before.
     pub fn new(entries: Vec<Entry>) -> Catalogue
         requires { catalogue_check entries.items ≡ Ok tt }
-        ensures { (result.entries.items ≡ entries.items) × (result.transit ≡ []) × (result.wait ≡ 0) }
+        ensures { (result.entries.items ≡ entries.items) × (items result.transit ≡ []) × (result.wait ≡ 0) }
     {
         Catalogue {
             entries,
@@ -81,9 +82,9 @@ impl Catalogue {
     // Puts the reply of an action that wants one into the transit. A reply that becomes the first one waits three takes.
     fn reply(&mut self, action: Action, reply: Option<u32>) -> Result<(), MemoryFault>
         ensures entries { self.new.entries ≡ self.old.entries }
-        ensures answer { result ≡ room_for action self.old.transit }
-        ensures transit { self.new.transit ≡ with_reply action reply self.old.transit }
-        ensures wait { self.new.wait ≡ wait_with action self.old.transit self.old.wait }
+        ensures answer { result ≡ room_for action (items self.old.transit) }
+        ensures transit { items self.new.transit ≡ with_reply action reply (items self.old.transit) }
+        ensures wait { self.new.wait ≡ wait_with action (items self.old.transit) self.old.wait }
     {
         if !action.wants_reply() {
             return Ok(());
@@ -99,7 +100,7 @@ impl Catalogue {
     fn change(&mut self, index: usize, action: Action)
         requires { index < length self.old.entries.items }
         ensures entries { self.new.entries.items ≡ acted self.old.entries.items index action }
-        ensures rest { (self.new.transit ≡ self.old.transit) × (self.new.wait ≡ self.old.wait) }
+        ensures rest { (items self.new.transit ≡ items self.old.transit) × (self.new.wait ≡ self.old.wait) }
     {
         let entry = &mut self.entries[index];
         entry.word = action.word_after(entry.word);
@@ -107,13 +108,13 @@ impl Catalogue {
 }
 
 impl HallMemory for Catalogue {
-    ghost view = { λ m. catalogue_view m.entries.items m.transit m.wait };
+    ghost view = { λ m. catalogue_view m.entries.items (items m.transit) m.wait };
 
     ghost bounded = { Prim.search rules };
 
     fn send(&mut self, request: Request) -> Result<(), MemoryFault>
-        ensures sends { Sends request result (catalogue_view self.old.entries.items self.old.transit self.old.wait) (catalogue_view self.new.entries.items self.new.transit self.new.wait) }
-        ensures wait { self.new.wait ≡ wait_with request.action self.old.transit self.old.wait }
+        ensures sends { Sends request result (catalogue_view self.old.entries.items (items self.old.transit) self.old.wait) (catalogue_view self.new.entries.items (items self.new.transit) self.new.wait) }
+        ensures wait { self.new.wait ≡ wait_with request.action (items self.old.transit) self.old.wait }
     {
         match self.find(request.cell) {
             None => self.reply(request.action, None),
@@ -127,8 +128,8 @@ impl HallMemory for Catalogue {
     }
 
     fn take(&mut self) -> Taken
-        ensures takes { Takes result (catalogue_view self.old.entries.items self.old.transit self.old.wait) (catalogue_view self.new.entries.items self.new.transit self.new.wait) }
-        ensures wait { self.new.wait ≡ wait_left result self.old.wait self.new.transit }
+        ensures takes { Takes result (catalogue_view self.old.entries.items (items self.old.transit) self.old.wait) (catalogue_view self.new.entries.items (items self.new.transit) self.new.wait) }
+        ensures wait { self.new.wait ≡ wait_left result self.old.wait (items self.new.transit) }
     {
         if self.wait > 0 {
             self.wait -= 1;

@@ -1,4 +1,5 @@
 ghost use Rattle.std.specs.Prelude.{◌≡◌, ◌≤◌, [], length, Ok};
+ghost use Rattle.queue.specs.Queues.{items};
 ghost use Rattle.memory.specs.Views.{room};
 ghost use Rattle.memory.specs.Flats.{flat_view, flat_check};
 ghost use Rattle.std.proofs.Common.{rules};
@@ -13,7 +14,7 @@ use queue::line::Queue;
 pub struct Flat {
     words: Vec<u32>,
     transit: Queue<Option<u32>, 32>,
-    ghost few: { length transit ≤ room },
+    ghost few: { length (items transit) ≤ room },
 }
 
 impl Flat {
@@ -30,7 +31,7 @@ impl Flat {
     // The memory of these words, with nothing in transit. The check was passed before.
     pub fn new(words: Vec<u32>) -> Flat
         requires { flat_check words.items ≡ Ok tt }
-        ensures { flat_view result.words.items result.transit ≡ flat_view words.items [] }
+        ensures { flat_view result.words.items (items result.transit) ≡ flat_view words.items [] }
     {
         Flat {
             words,
@@ -40,7 +41,7 @@ impl Flat {
 }
 
 impl HallMemory for Flat {
-    ghost view = { λ m. flat_view m.words.items m.transit };
+    ghost view = { λ m. flat_view m.words.items (items m.transit) };
 
     ghost bounded = { Prim.search rules };
 

@@ -1,4 +1,5 @@
 ghost use Rattle.std.specs.Prelude.{◌≡◌, []};
+ghost use Rattle.queue.specs.Queues.{items};
 ghost use Rattle.memory.specs.Effects.{Sends};
 ghost use Rattle.memory.specs.Laws.{Asked, SameCells, SameOthers, stored, load_answer, replies_back};
 
@@ -44,7 +45,7 @@ pub fn store_then_load<M: HallMemory>(
 
 // Takes until nothing is in transit, and answers the replies, the first one first. It ends, since every wait does.
 pub fn take_all<M: HallMemory>(memory: &mut M) -> Queue<Option<u32>, 32>
-    ensures replies { result ≡ (M.HallMemory.view memory.old).transit }
+    ensures replies { items result ≡ (M.HallMemory.view memory.old).transit }
     ensures rest { (M.HallMemory.view memory.new).transit ≡ [] }
     ensures cells { SameCells (M.HallMemory.view memory.old) (M.HallMemory.view memory.new) }
 {

@@ -4,7 +4,7 @@ use Rattle.std.proofs.lemmas.List.{places, same_lists, length-append, length-dro
 use Rattle.std.proofs.lemmas.Bool.{cases_eq}
 use Rattle.std.proofs.lemmas.Bool.Decides.{nat_tests}
 use Rattle.queue.specs.Held.{held, SoundLine}
-use Rattle.queue.specs.Slots.{slot_of, longer, shorter}
+use Rattle.queue.specs.Slots.{slot_of, longer, grown, shorter, shrunk}
 use Rattle.queue.specs.declared.cursor.Cursor.{Cursor}
 
 -- a cursor that lies within the slots holds as many elements as it says
@@ -39,6 +39,13 @@ module _ {T : Type 0} (c : Cursor) (slots : List T) (size : ℕ) (sound : SoundL
       let is = held_at c _ size after k d (omega arith) in
       let was = held_at c slots size sound k d (omega arith) in
       grind (arith, nat_tests, get_or-set_same, get_or-set_other, cases_eq k i))
+
+  -- the cursor alone, before the slot is written
+  pub grown_sound : SoundLine (grown c size) slots size
+  grown_sound = sound_within _ _ _ sound.slots_are (grind (arith, nat_tests)) (grind (arith, nat_tests))
+
+  pub shrunk_sound : SoundLine (shrunk c size) slots size
+  shrunk_sound = sound_within _ _ _ sound.slots_are (grind (arith, nat_tests)) (grind (arith, nat_tests))
 
   -- x in the slot after the last one in use comes last
   pub longer_sound : (at : ℕ) (x : T) → c.len < size → SoundLine (longer c) (set slots at x) size

@@ -3,7 +3,7 @@ use Rattle.std.proofs.Common.{◌≡◌, ℕ, ◌+◌, ◌<◌, List, [], ◌∷
 use Rattle.std.proofs.lemmas.List.{take_more, take_more_set}
 use Rattle.memory.specs.Views.{View}
 use Rattle.machine.specs.Laws.{Keeps}
-use Rattle.machine.specs.declared.state.State.{State}
+use Rattle.machine.specs.Means.{Mean}
 use Rattle.machine.specs.Steps as defined
 use Rattle.machine.specs.Steps.{History, Run, seen}
 use Rattle.machine.specs.declared.answer.Answer.{Answer}
@@ -15,11 +15,11 @@ calls_push : (cs : List Call) (c : Call) → calls_of (cs ++ c ∷ []) ≡ calls
 calls_push [] c = refl
 calls_push (d ∷ cs) c = ap (λ (l : List defined.Call). call_of d ∷ l) (calls_push cs c)
 
-pub goes_none : (calls : List Call) (answers : List Answer) (m : State) (v : View) → GoesOn calls answers 0 m v m v
+pub goes_none : (calls : List Call) (answers : List Answer) (m : Mean) (v : View) → GoesOn calls answers 0 m v m v
 goes_none calls answers m v cells nothing run =
     record { history = []; run = run; law = lawful cells [] m v nothing run; calls_asked = refl; answers_told = refl }
 
-pub goes_more : (calls : List Call) (answers : List Answer) (i : ℕ) (d : Call) (a : Answer) (before m n : State) (was v w : View)
+pub goes_more : (calls : List Call) (answers : List Answer) (i : ℕ) (d : Call) (a : Answer) (before m n : Mean) (was v w : View)
     → i < length calls → i < length answers → GoesOn calls answers i before was m v → Keeps (call_of (get_or calls i d)) a m v n w
     → GoesOn calls (set answers i a) (i + 1) before was n w
 goes_more calls answers i d a before m n was v w within room so_far one cells nothing opening =

@@ -2,8 +2,8 @@
 use Rattle.std.specs.Prelude.{◌≡◌, ℕ, List, [], ◌∷◌, ◌++◌, take}
 use Rattle.memory.specs.Views.{View}
 use Rattle.machine.specs.Laws.{Law}
-use Rattle.machine.specs.declared.state.State.{State}
-use Rattle.machine.specs.Soundness.{new_state}
+use Rattle.machine.specs.Means.{Mean}
+use Rattle.machine.specs.Soundness.{new_mean}
 use Rattle.machine.specs.Steps as defined
 use Rattle.machine.specs.Steps.{History, Run, Seen, seen}
 use Rattle.machine.specs.declared.answer.Answer.{Answer}
@@ -42,14 +42,14 @@ Throughout opening [] = Law opening []
 Throughout opening (e ∷ h) = Law opening (e ∷ h) × Throughout opening h
 
 -- a run of exactly these calls with exactly these answers over a memory that opened as `cells`, and the law after each of them
-pub record Ran (cells : View) (calls : List Call) (answers : List Answer) (m : State) (v : View) : Type 0 where
+pub record Ran (cells : View) (calls : List Call) (answers : List Answer) (m : Mean) (v : View) : Type 0 where
   pub history : History
-  pub run : Run new_state cells history m v
-  pub law : Throughout (seen new_state cells) history
+  pub run : Run new_mean cells history m v
+  pub law : Throughout (seen new_mean cells) history
   pub calls_asked : asked history ≡ calls_of calls
   pub answers_told : told history ≡ answers
 
 -- from a new mover, the first n calls were made with the first n answers
-abbrev pub GoesOn : List Call → List Answer → ℕ → State → View → State → View → Type 0
+abbrev pub GoesOn : List Call → List Answer → ℕ → Mean → View → Mean → View → Type 0
 GoesOn calls answers n before was after is =
-    (cells : View) → cells.transit ≡ [] → Run new_state cells [] before was → Ran cells (take n calls) (take n answers) after is
+    (cells : View) → cells.transit ≡ [] → Run new_mean cells [] before was → Ran cells (take n calls) (take n answers) after is

@@ -11,8 +11,8 @@ use Rattle.program.specs.declared.fault.ProgramFault.{ProgramFault}
 use Rattle.program.specs.declared.kind.Program.{Program}
 use Rattle.program.specs.declared.kind.Program.TheVariants as program
 use Rattle.machine.specs.Calls.{Refused, check_channel, check_program, start_checks, start_program, stored, reserve_state, put_state, unless_refused, start_refused, start_state}
-use Rattle.machine.specs.declared.state.State.{State}
-use Rattle.machine.specs.Soundness.{new_state}
+use Rattle.machine.specs.Means.{Mean}
+use Rattle.machine.specs.Soundness.{new_mean}
 use Rattle.machine.specs.Steps.{reserve, put, start, turn, look, status, Step, done_unless}
 use Rattle.machine.specs.Turns.{landed, served}
 use Rattle.machine.specs.declared.answer.Answer.TheVariants as answer
@@ -23,16 +23,16 @@ use Rattle.worked.specs.Story.{cells}
 use Rattle.worked.proofs.Counted.{single_mp}
 
 -- the states that the calls go through, one after another
-abbrev pub reserved : State
-reserved = reserve_state new_state
+abbrev pub reserved : Mean
+reserved = reserve_state new_mean
 
-abbrev pub filled : State
+abbrev pub filled : Mean
 filled = put_state reserved 0 6 70
 
-abbrev pub running : State
+abbrev pub running : Mean
 running = start_program filled 0 (record { single = true; mode = Mp Add; first = 5; last = 5; cell = 1000; word = 1 })
 
-abbrev pub sent : State
+abbrev pub sent : Mean
 sent = served running (Some (channel 0))
 
 abbrev request : Request
@@ -48,10 +48,10 @@ waited = record { cell = cell_after request cells; transit = Some 41 ∷ []; wai
 abbrev pub taken_up : View
 taken_up = record { cell = cell_after request cells; transit = []; wait = 0 }
 
-abbrev pub ended : State
+abbrev pub ended : Mean
 ended = landed sent sent.flight (taken.Reply (Some 41))
 
-pub reserve_step : Step reserve (answer.Given (channel 0)) new_state cells reserved cells
+pub reserve_step : Step reserve (answer.Given (channel 0)) new_mean cells reserved cells
 reserve_step = (refl, refl, refl)
 
 pub put_step : Step (put 0 6 70) answer.Done reserved cells filled cells
@@ -65,7 +65,7 @@ accepted : start_refused filled 0 (words 1967365 1000 1) ≡ None
 accepted = ap (λ (r : Result Program ProgramFault). check_channel 0 (check_program r (λ p. start_checks filled 0 (stored p)))) (single_mp 1000 1)
 
 runs : start_state filled 0 (words 1967365 1000 1) ≡ running
-runs = ap (λ (r : Result Program ProgramFault). elim r as (λ _. State) [ Ok p ↦ start_program filled 0 (stored p) | Err f ↦ filled ]) (single_mp 1000 1)
+runs = ap (λ (r : Result Program ProgramFault). elim r as (λ _. Mean) [ Ok p ↦ start_program filled 0 (stored p) | Err f ↦ filled ]) (single_mp 1000 1)
 
 pub start_step : Step (start 0 (words 1967365 1000 1)) answer.Done filled cells running cells
 start_step = (sym (ap done_unless accepted), sym (ap (λ (r : Refused). unless_refused r filled (start_state filled 0 (words 1967365 1000 1))) accepted ∙ runs), refl)

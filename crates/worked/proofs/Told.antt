@@ -7,8 +7,8 @@ use Rattle.program.specs.declared.kind.Program.{Program}
 use Rattle.machine.specs.Calls.{stored}
 use Rattle.machine.specs.Histories.{program_of, start_of, starts_on, begun_by, touched, Begun, begun, sent_count, landed_count, Clashes, ClashBy, ConflictsRunning}
 use Rattle.machine.specs.Laws.{place_alone, cell_alone, UnderBy, words_of, words_sent}
-use Rattle.machine.specs.declared.state.State.{State}
-use Rattle.machine.specs.Soundness.{new_state}
+use Rattle.machine.specs.Means.{Mean}
+use Rattle.machine.specs.Soundness.{new_mean}
 use Rattle.machine.specs.Steps.{Call, reserve, put, start, turn, look, status, Event, History, Run, begin, next, seen}
 use Rattle.machine.specs.declared.answer.Answer.{Answer}
 use Rattle.machine.specs.declared.answer.Answer.TheVariants as answer
@@ -21,7 +21,7 @@ use Rattle.worked.specs.Story.{cells, Story}
 use Rattle.worked.proofs.Counted.{single_mp}
 use Rattle.worked.proofs.Played.{reserved, filled, running, sent, ended, asked, waited, taken_up, mp, reserve_step, put_step, start_step, sent_turn, refused_put, waiting_turn, landing_turn, look_step, look_put, status_step}
 
-abbrev event : Call → Answer → State → View → Event
+abbrev event : Call → Answer → Mean → View → Event
 event call answer m v = record { call = call; answer = answer; after = seen m v }
 
 -- before the start, since the start, and at the end
@@ -47,16 +47,16 @@ whole = event (status 0) (answer.Word 8405016) ended taken_up
     ∷ event (look 0 5) (answer.Word 41) ended taken_up
     ∷ late
 
-run_early : Run new_state cells early filled cells
+run_early : Run new_mean cells early filled cells
 run_early = next (next begin reserve_step) put_step
 
-run_middle : Run new_state cells middle sent asked
+run_middle : Run new_mean cells middle sent asked
 run_middle = next (next (next run_early start_step) sent_turn) refused_put
 
-run_late : Run new_state cells late ended taken_up
+run_late : Run new_mean cells late ended taken_up
 run_late = next (next run_middle waiting_turn) landing_turn
 
-run_whole : Run new_state cells whole ended taken_up
+run_whole : Run new_mean cells whole ended taken_up
 run_whole = next (next (next run_late look_step) look_put) status_step
 
 -- the program that the start begins

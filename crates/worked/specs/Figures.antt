@@ -17,8 +17,7 @@ use Rattle.program.specs.declared.layout.Words.{Words}
 use Rattle.memory.specs.Effects.{Sends}
 use Rattle.memory.specs.Views.{View}
 use Rattle.machine.specs.Calls.{status_word}
-use Rattle.machine.specs.declared.state.State.{State}
-use Rattle.machine.specs.Means.{Window, cleared}
+use Rattle.machine.specs.Means.{Mean, Window, cleared}
 use Rattle.machine.specs.Turns.{serviced, served}
 use Rattle.machine.specs.declared.record.Record.{Record}
 
@@ -51,7 +50,7 @@ storing single window = record {
 }
 
 -- the blocks 0 and 1 and the singles 2 and 3 wait, the previous service was of no single, and nothing is in flight
-abbrev pub four_wait : Window → List Record → State
+abbrev pub four_wait : Window → List Record → Mean
 four_wait window others = record {
   records = storing false window ∷ storing false window ∷ storing true window ∷ storing true window ∷ others;
   singles = channel 2 ∷ channel 3 ∷ [];
@@ -62,7 +61,7 @@ four_wait window others = record {
 }
 
 -- the channels that so many services, one after another, choose
-abbrev pub serviced_for : ℕ → State → List (Option Channel)
+abbrev pub serviced_for : ℕ → Mean → List (Option Channel)
 serviced_for zero m = []
 serviced_for (suc n) m = serviced m ∷ serviced_for n (served m (serviced m))
 
@@ -78,7 +77,7 @@ halfway window = record {
 }
 
 -- channels 0 to 3 are reserved, channel 4 is free, and only channel 3 runs
-abbrev pub third_runs : Window → List Record → State
+abbrev pub third_runs : Window → List Record → Mean
 third_runs window others = record {
   records = cleared true window ∷ cleared true window ∷ cleared true window ∷ halfway window ∷ cleared false window ∷ others;
   singles = [];

@@ -5,8 +5,8 @@ use Rattle.operators.specs.declared.choice.Choice.TheVariants.{Add}
 use Rattle.memory.specs.Views.{View}
 use Rattle.machine.specs.Histories.{Begun, begun, touched, Clashes, sent_count, landed_count}
 use Rattle.machine.specs.Laws.{Law, place_alone, cell_alone, OnlyUnder, words_sent}
-use Rattle.machine.specs.declared.state.State.{State}
-use Rattle.machine.specs.Soundness.{new_state}
+use Rattle.machine.specs.Means.{Mean}
+use Rattle.machine.specs.Soundness.{new_mean}
 use Rattle.machine.specs.Steps.{Call, reserve, put, start, turn, look, status, History, Run, seen}
 use Rattle.machine.specs.declared.answer.Answer.{Answer}
 use Rattle.machine.specs.declared.answer.Answer.TheVariants as answer
@@ -56,9 +56,9 @@ told loaded =
 -- there is such a run, and this is what look tells of place 5 in it
 pub record Story (loaded : ℕ) : Type 0 where
   pub history : History
-  pub state : State
+  pub state : Mean
   pub view : View
-  pub run : Run new_state cells history state view
+  pub run : Run new_mean cells history state view
   pub answers : said_in history ≡ told loaded
   -- the cell holds the sum, and the other fitted cell its word as before
   pub summed : view.cell 1000 ≡ Some 42
@@ -74,4 +74,4 @@ pub record Story (loaded : ℕ) : Type 0 where
   pub alike : (b : Begun)
       × ((begun 0 history ≡ Some b) × (place_alone 0 b (landed_count 0 history) 5 ≡ Ok loaded) × (cell_alone 0 b (sent_count 0 history) 0 ≡ Some 42))
   -- so the law holds of it
-  pub law : Law (seen new_state cells) history
+  pub law : Law (seen new_mean cells) history

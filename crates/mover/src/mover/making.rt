@@ -1,6 +1,6 @@
 ghost use Rattle.std.specs.Prelude.{◌≡◌, Ok};
 ghost use Rattle.machine.specs.Laws.{Opens};
-ghost use Rattle.machine.specs.Soundness.{new_state};
+ghost use Rattle.machine.specs.Soundness.{new_mean};
 ghost use Rattle.mover.specs.Making.{mover_check};
 ghost use Rattle.mover.specs.Meaning.{MoverSound};
 
@@ -24,7 +24,7 @@ impl<M: HallMemory> Mover<M> {
     pub fn new(memory: M) -> Mover<M>
         requires { mover_check (M.HallMemory.view memory) ≡ Ok tt }
         ensures sound { MoverSound M.HallMemory result.memory result.state }
-        ensures state { result.state ≡ new_state }
+        ensures state { result.state ≡ new_mean }
         ensures opens { Opens result.state (M.HallMemory.view result.memory) }
         ensures memory { result.memory ≡ memory }
     {

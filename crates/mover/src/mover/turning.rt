@@ -1,5 +1,5 @@
 ghost use Rattle.std.specs.Prelude.{◌≡◌, ◌+◌, ◌<◌, ◌≤◌, ◌∷◌, length};
-ghost use Rattle.machine.specs.Means.{record_of};
+ghost use Rattle.machine.specs.Means.{mean_of, record_of};
 ghost use Rattle.machine.specs.Soundness.{Sound};
 ghost use Rattle.machine.specs.Turns.{land_piece, rest, serviced, serve, next_piece};
 ghost use Rattle.mover.specs.Halves.{Lands, Serves, choose_of, left_line};
@@ -17,12 +17,12 @@ use program::range::PlaceRange;
 
 // The reply of the oldest piece in flight lands. The piece leaves the flight with its last reply.
 fn land_oldest(state: &mut State, piece: Piece, reply: Option<u32>)
-    requires oldest { state.old.flight ≡ piece ∷ rest state.old.flight }
+    requires oldest { (mean_of state.old).flight ≡ piece ∷ rest (mean_of state.old).flight }
     requires low { piece.channel.0 < 16 }
-    requires few { (record_of state.old piece.channel.0).counts.landed < 256 }
+    requires few { (record_of (mean_of state.old) piece.channel.0).counts.landed < 256 }
     requires some { 1 ≤ piece.due }
     requires within { piece.next.0 + piece.due ≤ 256 }
-    ensures { state.new ≡ land_piece state.old piece (rest state.old.flight) reply }
+    ensures { mean_of state.new ≡ land_piece (mean_of state.old) piece (rest (mean_of state.old).flight) reply }
 {
     land_reply(&mut state.records[piece.channel.0 as usize], piece, reply);
     if piece.due == 1 {
@@ -38,9 +38,9 @@ fn land_oldest(state: &mut State, piece: Piece, reply: Option<u32>)
 
 // Landing: take is called once if a piece is in flight.
 pub fn land<M: HallMemory>(memory: &mut M, state: &mut State) -> Landing
-    requires { Sound state.old (M.HallMemory.view memory.old) }
-    ensures sound { Sound state.new (M.HallMemory.view memory.new) }
-    ensures lands { Lands result state.old state.new (M.HallMemory.view memory.old) (M.HallMemory.view memory.new) }
+    requires { Sound (mean_of state.old) (M.HallMemory.view memory.old) }
+    ensures sound { Sound (mean_of state.new) (M.HallMemory.view memory.new) }
+    ensures lands { Lands result (mean_of state.old) (mean_of state.new) (M.HallMemory.view memory.old) (M.HallMemory.view memory.new) }
 {
     let Some(piece) = state.flight.first() else {
         return Landing::Nothing;
@@ -68,7 +68,7 @@ fn choose(single: Option<Channel>, block: Option<Channel>, after_single: bool) -
 
 // The channel to serve: a single goes first, unless the previous service was of a single and a block waits.
 fn next_channel(state: &State) -> Option<Channel>
-    ensures { result ≡ serviced state.now }
+    ensures { result ≡ serviced (mean_of state.now) }
 {
     if state.flight.is_full() {
         return None;
@@ -82,7 +82,7 @@ fn next_channel(state: &State) -> Option<Channel>
 
 // The channel that was served leaves its line; a block whose piece was not final goes to its end.
 fn leave_line(state: &mut State, channel: Channel, single: bool, last: bool)
-    ensures { state.new ≡ left_line state.old channel single last }
+    ensures { mean_of state.new ≡ left_line (mean_of state.old) channel single last }
 {
     if single {
         state.singles.pop();
@@ -97,10 +97,10 @@ fn leave_line(state: &mut State, channel: Channel, single: bool, last: bool)
 // The state after a piece was sent.
 fn note_service(state: &mut State, channel: Channel, piece: PlaceRange)
     requires low { channel.0 < 16 }
-    requires room { length state.old.flight < 4 }
-    requires piece { span piece ≡ next_piece (record_of state.old channel.0) }
-    requires few { (record_of state.old channel.0).counts.sent < 256 }
-    ensures { state.new ≡ serve state.old channel (record_of state.old channel.0) }
+    requires room { length (mean_of state.old).flight < 4 }
+    requires piece { span piece ≡ next_piece (record_of (mean_of state.old) channel.0) }
+    requires few { (record_of (mean_of state.old) channel.0).counts.sent < 256 }
+    ensures { mean_of state.new ≡ serve (mean_of state.old) channel (record_of (mean_of state.old) channel.0) }
 {
     let record = state.records[channel.0 as usize];
     let last = served(&mut state.records[channel.0 as usize], piece);
@@ -118,9 +118,9 @@ fn note_service(state: &mut State, channel: Channel, piece: PlaceRange)
 
 // Service: one piece of one channel, if fewer than four pieces are in flight and a channel waits.
 pub fn serve_next<M: HallMemory>(memory: &mut M, state: &mut State) -> Option<Service>
-    requires { Sound state.old (M.HallMemory.view memory.old) }
-    ensures sound { Sound state.new (M.HallMemory.view memory.new) }
-    ensures serves { Serves result state.old state.new (M.HallMemory.view memory.old) (M.HallMemory.view memory.new) }
+    requires { Sound (mean_of state.old) (M.HallMemory.view memory.old) }
+    ensures sound { Sound (mean_of state.new) (M.HallMemory.view memory.new) }
+    ensures serves { Serves result (mean_of state.old) (mean_of state.new) (M.HallMemory.view memory.old) (M.HallMemory.view memory.new) }
 {
     let channel = next_channel(state)?;
     let record = &state.records[channel.0 as usize];

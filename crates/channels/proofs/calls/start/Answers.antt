@@ -1,11 +1,12 @@
 use Rattle.std.proofs.Common.{ℕ, sym, ap, ◌∙◌}
 use Rattle.machine.specs.Calls.{start_checks, start_program, stored}
+use Rattle.machine.specs.Means.{mean_of}
 use Rattle.channels.proofs.Starting.{channel_known, answered_ok, answered_err, refused_state, accepted_state}
 use Rattle.channels.proofs.calls.start.Goals as goal
 
 pub returns-in_err-startable-clause-after : goal.returns-in_err-startable-clause-after
 returns-in_err-startable-clause-after c =
-    let m = c.args.state.now in
+    let m = mean_of c.args.state.now in
     let n = c.args.channel in
     let ch = c.in_ok-channel.channel in
     let p = c.in_ok-read.field-0 in
@@ -17,7 +18,7 @@ returns-in_err-startable-clause-after c =
 
 pub returns-clause-after : goal.returns-clause-after
 returns-clause-after c =
-    let m = c.args.state.now in
+    let m = mean_of c.args.state.now in
     let n = c.args.channel in
     let ch = c.in_ok-channel.channel in
     let p = c.in_ok-read.field-0 in

@@ -1,5 +1,6 @@
 use Rattle.std.proofs.Common.{◌≡◌, Some, None, refl, rules}
 use Rattle.std.specs.List.{slice_get}
+use Rattle.queue.specs.Queues.{items}
 use Rattle.layers.proofs.RouterTakes.{nothing_taken}
 use Rattle.layers.proofs.Routing.{taken}
 use Rattle.layers.proofs.router.RouterHallMemory.take.Goals as goal
@@ -15,14 +16,14 @@ returns g c =
     let right-bounded = g.met.R.HallMemory.bounded was.right in
     elim c.match-first.branch [
       | in-None w ↦
-          let none : slice_get was.order 0 ≡ None = search rules in
-          rw (c.settle.ensures, w.self-is, w.taken-is) (nothing_taken was.bit was.order left right none)
+          let none : slice_get (items was.order) 0 ≡ None = search rules in
+          rw (c.settle.ensures, w.self-is, w.taken-is) (nothing_taken was.bit (items was.order) left right none)
       | in-Some-Left w ↦
-          let first : slice_get was.order 0 ≡ Some Left = search rules in
+          let first : slice_get (items was.order) 0 ≡ Some Left = search rules in
           rw (c.settle.ensures, w.self-is, w.taken-is)
-          (taken w.take-taken.result Left was.bit was.order left right (g.L.HallMemory.view w.take-taken.new.self) right was.tied left-bounded right-bounded first w.take-taken.ensures refl)
+          (taken w.take-taken.result Left was.bit (items was.order) left right (g.L.HallMemory.view w.take-taken.new.self) right was.tied left-bounded right-bounded first w.take-taken.ensures refl)
       | in-Some-Right w ↦
-          let first : slice_get was.order 0 ≡ Some Right = search rules in
+          let first : slice_get (items was.order) 0 ≡ Some Right = search rules in
           rw (c.settle.ensures, w.self-is, w.taken-is)
-          (taken w.take-taken-in-Some-Right.result Right was.bit was.order left right left (g.R.HallMemory.view w.take-taken-in-Some-Right.new.self) was.tied left-bounded right-bounded first w.take-taken-in-Some-Right.ensures refl)
+          (taken w.take-taken-in-Some-Right.result Right was.bit (items was.order) left right left (g.R.HallMemory.view w.take-taken-in-Some-Right.new.self) was.tied left-bounded right-bounded first w.take-taken-in-Some-Right.ensures refl)
     ]

@@ -6,5 +6,6 @@ use Rattle.queue.proofs.line.Queue.get.Goals as goal
 
 pub returns : goal.returns
 returns g c =
-    let at = held_at c.self.inside.cursor c.self.inside.slots g.row.N c.self.invariant c.args.i c.index-self-slot.result in
-    rw (← c.self.view_is) (grind (arith, nat_tests, slice_get-get_or))
+    let queue = c.args.self.now in
+    let at = held_at queue.cursor queue.slots g.row.N queue.sound c.args.i c.index-self-slot.result in
+    grind (arith, nat_tests, slice_get-get_or)
