@@ -3,13 +3,15 @@ use Rattle.std.specs.Prelude.{◌≡◌, min, List, length, take, drop, Err}
 use Rattle.memory.specs.declared.interface.HallMemory.{Ghosts}
 use Rattle.machine.specs.declared.answer.Answer.{Answer}
 use Rattle.mover.specs.Making.{mover_check}
-use Rattle.mover.specs.Meaning.{Whole}
+use Rattle.mover.specs.Meaning.{Whole, MoverSound}
 use Rattle.runs.specs.Asked.{Ran}
 use Rattle.runs.specs.declared.call.Call.{Call}
 use Rattle.runs.specs.declared.run.Returned.{Returned}
 
--- a run of exactly the calls that were asked with the answers that were told; places for answers beyond them keep what they held
+-- A run of exactly the calls that were asked with the answers that were told. The mover is sound, and places for answers beyond them
+-- keep what they held.
 pub record RanWhole {M : Type 0} (hall : Ghosts M) (memory : M) (calls : List Call) (before answers : List Answer) (s : Whole M) : Type 0 where
+  pub sound : MoverSound hall s.memory s.state
   pub ran : Ran (hall.view memory) (take (min (length calls) (length answers)) calls) (take (min (length calls) (length answers)) answers) s.state (hall.view s.memory)
   pub rest : drop (min (length calls) (length answers)) answers ≡ drop (min (length calls) (length answers)) before
 

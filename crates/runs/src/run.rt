@@ -1,5 +1,5 @@
 ghost use Rattle.std.specs.Prelude.{drop, ◌≡◌, min, length, MatchResult};
-ghost use Rattle.mover.specs.Meaning.{Moves};
+ghost use Rattle.mover.specs.Meaning.{Moves, MoverSound};
 ghost use Rattle.runs.specs.Asked.{call_of, GoesOn};
 ghost use Rattle.runs.specs.Whole.{RanWhole, GaveBack};
 
@@ -52,7 +52,8 @@ pub fn carry_out<M: HallMemory>(mover: &mut Mover<M>, call: Call<'_>) -> Answer
 
 // Carries out as many of the calls as there are places for their answers, in order. The places are the caller's, so that no call
 // fails for want of memory. They are found by the index of the call, as the clause counts both from the first.
-fn carry_all<M: HallMemory>(mover: &mut Mover<M>, calls: &[Call<'_>], answers: &mut [Answer])
+pub fn carry_all<M: HallMemory>(mover: &mut Mover<M>, calls: &[Call<'_>], answers: &mut [Answer])
+    ensures sound { MoverSound M.HallMemory mover.old.memory mover.old.state → MoverSound M.HallMemory mover.new.memory mover.new.state }
     ensures ran { GoesOn calls.now answers.new (min (length calls.now) (length answers.old)) mover.old.state (M.HallMemory.view mover.old.memory) mover.new.state (M.HallMemory.view mover.new.memory) }
     ensures rest { drop (min (length calls.now) (length answers.old)) answers.new ≡ drop (min (length calls.now) (length answers.old)) answers.old }
 {

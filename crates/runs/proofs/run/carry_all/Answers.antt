@@ -1,4 +1,5 @@
 use Rattle.std.proofs.Common.{◌<◌, subst, arith, length-take-le, get_or-take, drop-set-lt, refl, ◌∙◌}
+use Rattle.machine.proofs.KeptSteps.{sound_step}
 use Rattle.machine.specs.Laws.{Keeps}
 use Rattle.runs.specs.Asked.{call_of}
 use Rattle.runs.specs.declared.call.Call.{Call}
@@ -7,7 +8,7 @@ use Rattle.runs.proofs.Longer.{goes_none, goes_more}
 use Rattle.runs.proofs.run.carry_all.Goals as goal
 
 pub loop-i-init : goal.loop-i-init
-loop-i-init g c = (goes_none c.args.calls.now c.args.answers.now _ _, refl)
+loop-i-init g c = (goes_none c.args.calls.now c.args.answers.now _ _, λ sound. sound, refl)
 
 pub loop-i-preserved : goal.loop-i-preserved
 loop-i-preserved g c =
@@ -23,5 +24,6 @@ loop-i-preserved g c =
     (get_or-take count calls i Reserve below) c.carry_out.ensures in (
       goes_more calls c.loop-i.answers i Reserve c.carry_out.result c.args.mover.now.state before.state after.state
           (view c.args.mover.now.memory) (view before.memory) (view after.memory) (omega arith) (omega arith) c.loop-i.invariant.0 one,
-      drop-set-lt count c.loop-i.answers i c.carry_out.result (omega arith) ∙ c.loop-i.invariant.1,
+      λ sound. sound_step _ _ _ _ _ _ c.carry_out.ensures.step (c.loop-i.invariant.1 sound),
+      drop-set-lt count c.loop-i.answers i c.carry_out.result (omega arith) ∙ c.loop-i.invariant.2,
     )

@@ -15,6 +15,7 @@ returns-in-Ok g c =
     let long = subst (λ (k : ℕ). Ran (view c.new-mover.result.memory) (take (min (length calls) k) calls) (take (min (length calls) k) answers) t.state (view t.memory))
     (sym c.carry_all.auto.answers) ran in
     record {
+      sound = c.carry_all.ensures.sound c.new-mover.ensures.sound;
       ran = subst (λ (m : g.row.M.Denot). Ran (view m) (take (min (length calls) (length answers)) calls) (take (min (length calls) (length answers)) answers) t.state (view t.memory))
           same long;
       rest = subst (λ (k : ℕ). drop (min (length calls) k) answers ≡ drop (min (length calls) k) c.args.answers.now) (sym c.carry_all.auto.answers) c.carry_all.ensures.rest;
