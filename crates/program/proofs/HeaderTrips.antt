@@ -1,8 +1,8 @@
--- A first word that is written is read again, and a stray bit is the lowest.
-use Rattle.std.proofs.Common.{◌≡◌, ℕ, ◌+◌, ◌*◌, ◌/◌, ◌%◌, ◌^◌, ◌<◌, Bool, true, false, ◌&&◌, eqb, ltb, Ok, Err, Result, sym, refl, ap, ◌∙◌, subst, arith}
+-- A first word and what it says determine each other, and a stray bit is the lowest.
+use Rattle.std.proofs.Common.{◌≡◌, ℕ, ◌+◌, ◌*◌, ◌/◌, ◌%◌, ◌^◌, ◌<◌, Bool, true, false, ◌&&◌, eqb, ltb, IfOk, Ok, Err, Result, sym, refl, ap, ◌∙◌, subst, arith}
 use mir.Val.{bool_byte}
-use Rattle.std.proofs.lemmas.Nat.{div-mul-add, mod-mul-add}
-use Rattle.std.proofs.lemmas.Bool.{cond_both, ltb-true}
+use Rattle.std.proofs.lemmas.Nat.{div-mul-add, mod-mul-add, shr-shr}
+use Rattle.std.proofs.lemmas.Bool.{cond_both, ltb-false, ltb-true}
 use Rattle.std.proofs.lemmas.Bool.Decides.{nat_tests}
 use Rattle.operators.specs.declared.choice.Choice.{Choice}
 use Rattle.operators.specs.declared.choice.Choice.TheVariants.{And, Or, Max, Add}
@@ -25,6 +25,9 @@ mode_small m = grind (arith, nat_tests)
 
 bool_small : (b : Bool) → bool_byte b < 2
 bool_small b = grind (arith, nat_tests)
+
+choice_back : (n : ℕ) → n < 4 → choice_number (operator_of n) ≡ n
+choice_back n h = grind (arith, nat_tests)
 
 choice_again : (o : Choice) → operator_of (choice_number o) ≡ o
 choice_again And = refl
@@ -85,6 +88,35 @@ header_again h first last =
     let w = fields h.first.0 h.last.0 (mode_number h.mode) (operator_number h.mode) (bool_byte h.single)
     first last (mode_small h.mode) (operator_small h.mode) (bool_small h.single) in
     rw (w.stray, w.mode, w.operator, w.single, w.from, w.to, mode_clear h.mode, mode_again h.mode, single_again h.single) refl
+
+mode_back : (m o : ℕ) → m < 4 → mode_number (mode_of m o) ≡ m
+mode_back m o m< = grind (arith, nat_tests)
+
+operator_back : (m o : ℕ) → m < 4 → o < 4 → (ltb m 2 && ltb 0 o) ≡ false → operator_number (mode_of m o) ≡ o
+operator_back m o m< o< clear = grind (arith, nat_tests, choice_back)
+
+single_back : (b : ℕ) → b < 2 → bool_byte (eqb b 1) ≡ b
+single_back b b< = grind (arith, nat_tests)
+
+-- a word is the sum of its fields
+sum_back : (w : ℕ) → stray_bits w ≡ 0 → w % 256 + w / 2 ^ 8 % 256 * 2 ^ 8 + mode_bits w * 2 ^ 16 + operator_bits w * 2 ^ 18 + w / 2 ^ 20 % 2 * 2 ^ 20 ≡ w
+sum_back w none =
+    let at8 = shr-shr w 8 8 in
+    let at16 = shr-shr w 16 2 in
+    let at18 = shr-shr w 18 2 in
+    let at20 = shr-shr w 20 1 in
+    omega arith
+
+pub header_back : (w : ℕ) → IfOk (read_header w) (λ h. write_header h ≡ w)
+header_back w =
+    let P : Result Header WordsFault → Type 0 = λ r. IfOk r (λ h. write_header h ≡ w) in
+    cond_both (ltb 0 (stray_bits w)) _ _ P (λ _. tt) (λ clean.
+    cond_both (ltb (mode_bits w) 2 && ltb 0 (operator_bits w)) _ _ P (λ _. tt) (λ clear.
+    let none : stray_bits w ≡ 0 = omega (arith, ltb-false 0 (stray_bits w) clean) in
+    let mode = mode_back (mode_bits w) (operator_bits w) (omega arith) in
+    let operator = operator_back (mode_bits w) (operator_bits w) (omega arith) (omega arith) clear in
+    let single = single_back (w / 2 ^ 20 % 2) (omega arith) in
+    rw (mode, operator, single) (sum_back w none)))
 
 -- a word that is known to be the one written is read as what it was written from
 pub write_again : (h : Header) (w : ℕ) → h.first.0 < 256 → h.last.0 < 256 → w ≡ write_header h → ReadAs w h

@@ -20,6 +20,7 @@ use Rattle.program.specs.declared.kind.Program.TheVariants.{Block, Single}
 use Rattle.program.specs.declared.kind.Single.{Single as SingleProgram}
 use Rattle.program.specs.declared.layout.Words.{Words}
 use Rattle.program.specs.declared.range.PlaceRange.{PlaceRange}
+use Rattle.program.proofs.HeaderTrips.{header_back}
 use Rattle.program.proofs.Ordered.{range_some, range_of_is}
 
 action_again : (a : Action) → sending (mode_of a) (unwrap_or (sent a) 0) ≡ a
@@ -101,14 +102,12 @@ rest_back : (o : Result Header WordsFault) (w : Words) → IfOk o (λ h. write_h
 rest_back (Err f) w back = tt
 rest_back (Ok h) w back = places_back h (range_of h.first h.last) w refl back
 
--- the words of a program that was read are those that it is written as, where that holds of its first word
-pub read_back : (w : Words) (r : Result Program ProgramFault) → r ≡ read_program w → ((h : Header) → read_header w.first ≡ Ok h → write_header h ≡ w.first)
-    → (p : Program) → r ≡ Ok p → write_program p ≡ w
-read_back w r e header p ok = subst (Back w) (sym e ∙ ok) (rest_back (read_header w.first) w (first_back (read_header w.first) header))
-  where
-    first_back : (o : Result Header WordsFault) → ((h : Header) → o ≡ Ok h → write_header h ≡ w.first) → IfOk o (λ h. write_header h ≡ w.first)
-    first_back (Err f) back = tt
-    first_back (Ok h) back = back h refl
+pub program_back : (w : Words) → IfOk (read_program w) (λ p. write_program p ≡ w)
+program_back w = rest_back (read_header w.first) w (header_back w.first)
+
+-- the same of a result that is known to be the one read
+pub read_back : (w : Words) (r : Result Program ProgramFault) → r ≡ read_program w → (p : Program) → r ≡ Ok p → write_program p ≡ w
+read_back w r e p ok = subst (Back w) (sym e ∙ ok) (program_back w)
 
 -- words that are known to be the ones written are read as the program that they were written from
 pub write_again : (p : Program) (h : Header) (first : ℕ) (w : Words) → h ≡ header_of p → ReadAs first h → first ≡ (write_program p).first → w ≡ write_program p → ReadsAs w p

@@ -10,7 +10,8 @@ impl PlaceRange {
     pub fn checked(first: Place, last: Place) -> Option<PlaceRange>
         ensures { result ≡ range_of first last }
     {
-        if first <= last {
+        let ordered = first <= last;
+        if ordered {
             Some(PlaceRange { first, last })
         } else {
             None
