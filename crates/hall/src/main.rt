@@ -5,6 +5,9 @@
 #[cfg(test)]
 mod tests;
 
+ghost use Rattle.std.specs.Prelude.{◌≡◌, if◌then◌else◌, is_ok};
+ghost use Rattle.std.specs.Process.{exit_status};
+
 use session::script::Script;
 use std::io;
 use std::io::{BufWriter, ErrorKind, Read, Write};
@@ -50,12 +53,19 @@ fn run(rt: &HostRuntime) -> io::Result<()> {
     Err(io::Error::other("the input does not end"))
 }
 
-fn main(rt: HostRuntime) -> ExitCode {
-    match run(&rt) {
+// Status 0 where the whole script was carried out and no line was a bad line, else 1 and the reason on standard error.
+fn status(rt: &HostRuntime, ran: io::Result<()>) -> ExitCode
+    ensures { exit_status result ≡ (if is_ok ran then 0 else 1) }
+{
+    match ran {
         Ok(()) => ExitCode::SUCCESS,
         Err(error) => {
             let _ = eprintln!(rt; "hall: {error}");
             ExitCode::FAILURE
         }
     }
+}
+
+fn main(rt: HostRuntime) -> ExitCode {
+    status(&rt, run(&rt))
 }

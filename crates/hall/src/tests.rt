@@ -82,6 +82,26 @@ fn lines_are_counted(rt: HostRuntime) -> Result<(), Fail> {
     Ok(())
 }
 
+// A refusal of the library is an answer, so a script that meets some, and has no bad line, ends well.
+#[test]
+fn refusals_are_answers(rt: HostRuntime) -> Result<(), Fail> {
+    let mut out = Vec::new(rt.alloc());
+    let mut script = Script::new(rt.alloc());
+    script.take(
+        b"program 2097152 0 0\nmemory spread 2 flat [1]\n# none\nmemory flat [1]\nmover\nlook 0 0\n",
+        &mut out,
+    )?;
+    script.take(b"reserve\nlook 0 256", &mut out)?;
+    assert!(rt; script.end(&mut out).is_ok());
+    assert_eq!(rt;
+        out.as_slice(),
+        b"refused 3 detail 21 layer words\nrefused 43 detail 0 layer memory\nmemory ready\nmover ready\n\
+          refused 22 detail 0 layer channel\nchannel 0\nrefused 2 detail 0 layer channel\n"
+            .as_slice()
+    );
+    Ok(())
+}
+
 // A line that asks for a memory or a mover that is not there is a bad line, and changes nothing.
 #[test]
 fn what_is_not_there(rt: HostRuntime) -> Result<(), Fail> {
