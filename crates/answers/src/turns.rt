@@ -54,6 +54,14 @@ impl fmt::Display for ShownTurn {
     ghost output = { λ x. Some (turn_text x.0) };
 
     fn fmt<W: fmt::Write>(&self, f: &mut fmt::Formatter<W>) -> fmt::Result {
+        // Most turns of a long script are of a mover that has nothing to do, so theirs is one text.
+        if let Turned {
+            landing: Landing::Nothing,
+            service: None,
+        } = self.0
+        {
+            return write!(f, "landing none, service none");
+        }
         let landing = ShownLanding(self.0.landing);
         let service = ShownService(self.0.service);
         write!(f, "landing {landing}, service {service}")
