@@ -9,6 +9,7 @@ ghost use Rattle.std.specs.Prelude.{◌≡◌, if◌then◌else◌, is_ok};
 ghost use Rattle.std.specs.Process.{exit_status};
 
 use session::script::Script;
+use std::alloc::Global;
 use std::io;
 use std::io::{BufWriter, ErrorKind, Read, Write};
 use std::process::ExitCode;
@@ -39,18 +40,23 @@ fn answer_chunk<R: Read, W: Write>(
     }
 }
 
-fn run(rt: &HostRuntime) -> io::Result<()> {
-    let mut chunk = vec![in rt.alloc(); 0u8; CHUNK]?;
-    let mut input = rt.stdin();
-    let mut out = BufWriter::new(rt.alloc(), rt.stdout())?;
-    let mut script = Script::new(rt.alloc());
+// Carries out the script that a reader gives, to its end.
+fn read_script<R: Read, W: Write>(heap: Global, input: &mut R, out: &mut W) -> io::Result<()> {
+    let mut chunk = vec![in heap; 0u8; CHUNK]?;
+    let mut script = Script::new(heap);
     // Nothing says that an input ends, and every function must.
     for _ in 0..u64::MAX {
-        if !answer_chunk(&mut input, &mut chunk, &mut script, &mut out)? {
-            return script.end(&mut out);
+        if !answer_chunk(input, &mut chunk, &mut script, out)? {
+            return script.end(out);
         }
     }
     Err(io::Error::other("the input does not end"))
+}
+
+fn run(rt: &HostRuntime) -> io::Result<()> {
+    let mut input = rt.stdin();
+    let mut out = BufWriter::new(rt.alloc(), rt.stdout())?;
+    read_script(rt.alloc(), &mut input, &mut out)
 }
 
 // Status 0 where the whole script was carried out and no line was a bad line, else 1 and the reason on standard error.

@@ -1,8 +1,9 @@
+use crate::{read_script, status};
 use commands::trouble::Trouble;
 use session::script::Script;
 use session::session::Session;
 use std::alloc::Global;
-use std::process::Abort;
+use std::process::{Abort, ExitCode};
 use std::test::Fail;
 
 fn refuses(rt: &impl Abort, heap: Global, line: &[u8]) -> Result<(), Fail> {
@@ -98,6 +99,23 @@ fn refusals_are_answers(rt: HostRuntime) -> Result<(), Fail> {
         b"refused 3 detail 21 layer words\nrefused 43 detail 0 layer memory\nmemory ready\nmover ready\n\
           refused 22 detail 0 layer channel\nchannel 0\nrefused 2 detail 0 layer channel\n"
             .as_slice()
+    );
+    Ok(())
+}
+
+// The same of the program, as far as it goes on a reader and a writer: with a bad line its status is 1, and without one 0.
+#[test]
+fn statuses(rt: HostRuntime) -> Result<(), Fail> {
+    let mut out = Vec::new(rt.alloc());
+    let mut good: &[u8] = b"memory flat [0]\njoin add 1 2";
+    let ended = read_script(rt.alloc(), &mut good, &mut out);
+    assert!(rt; status(&rt, ended) == ExitCode::SUCCESS);
+    let mut bad: &[u8] = b"memory flat [0]\nnone\n";
+    let ended = read_script(rt.alloc(), &mut bad, &mut out);
+    assert!(rt; status(&rt, ended) == ExitCode::FAILURE);
+    assert_eq!(rt;
+        out.as_slice(),
+        b"memory ready\nword 3\nmemory ready\nerror line 2\n".as_slice()
     );
     Ok(())
 }
