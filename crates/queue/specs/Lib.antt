@@ -1,3 +1,4 @@
+pub mod Clones
 pub mod Held
 pub mod Queues
 pub mod Slots

@@ -4,3 +4,5 @@
 mod cursor;
 pub mod full;
 pub mod line;
+#[cfg(test)]
+mod tests;

@@ -12,18 +12,27 @@ pub struct Queue<T: Copy, const N: usize> {
     ghost sound: { SoundLine cursor slots N },
 }
 
+// Each slot of a clone is a clone of the slot. `copied` gives the queue as it is.
 impl<T: Copy, const N: usize> Clone for Queue<T, N> {
-    ghost is_clone = { λ queue copy. copy ≡ queue };
+    ghost use Rattle.std.specs.Prelude.{◌<◌, ℕ, slice_index_or};
+    ghost use Rattle.std.specs.Array.Iter.{IntoIterFitsInMemory};
+    ghost use Rattle.queue.specs.Clones.{Cloned};
+
+    ghost is_clone = { Cloned T.is_clone };
+
+    ghost is_infallible = { λ queue. IntoIterFitsInMemory T.row N.row × ((i : ℕ) (d : T) → i < N → T.is_infallible (slice_index_or queue.slots i d)) };
 
     fn clone(&self) -> Result<Queue<T, N>, AllocError> {
-        Ok(*self)
+        let mut copy = self.copied();
+        copy.slots = self.slots.clone()?;
+        Ok(copy)
     }
 }
 
 impl<T: Copy, const N: usize> Copy for Queue<T, N> {}
 
 impl<T: Copy, const N: usize> Queue<T, N> {
-    ghost use Rattle.std.specs.Prelude.{◌≡◌, ◌≤◌, [], length, drop, ◌==◌, slice_set, nat_lt};
+    ghost use Rattle.std.specs.Prelude.{◌≡◌, ◌≤◌, [], length, drop, ◌==◌, slice_set, nat_lt, OnErr, IfNone};
     ghost use Rattle.std.specs.List.{slice_get};
     ghost use Rattle.queue.specs.Held.{pushed, room_for};
     ghost use Rattle.queue.specs.Queues.{items};
@@ -58,6 +67,13 @@ impl<T: Copy, const N: usize> Queue<T, N> {
         self.len() == N
     }
 
+    // The same queue. Unlike `clone` it asks no element, so it can't fail.
+    pub fn copied(&self) -> Queue<T, N>
+        ensures { result ≡ self.now }
+    {
+        *self
+    }
+
     // The i-th element, counted from 0, or none.
     pub fn get(&self, i: usize) -> Option<T>
         ensures { result ≡ slice_get (items self.now) i }
@@ -77,6 +93,7 @@ impl<T: Copy, const N: usize> Queue<T, N> {
     pub fn replace_first(&mut self, x: T) -> Option<T>
         ensures holds { items self.new ≡ slice_set (items self.old) 0 x }
         ensures answer { result ≡ slice_get (items self.old) 0 }
+        ensures kept { IfNone result (self.new ≡ self.old) }
     {
         let slot = self.cursor.find(0, N)?;
         let first = self.slots[slot];
@@ -89,6 +106,7 @@ impl<T: Copy, const N: usize> Queue<T, N> {
         ensures holds { items self.new ≡ pushed N (items self.old) x }
         ensures answer { result ≡ room_for N (items self.old) }
         ensures few { length (items self.new) ≤ N }
+        ensures kept { OnErr result (self.new ≡ self.old) }
     {
         let end = self.cursor.grow(N).ok_or(Full)?;
         self.slots[end] = x;
@@ -100,6 +118,7 @@ impl<T: Copy, const N: usize> Queue<T, N> {
         ensures holds { items self.new ≡ drop 1 (items self.old) }
         ensures answer { result ≡ slice_get (items self.old) 0 }
         ensures few { length (items self.old) ≤ N }
+        ensures kept { IfNone result (self.new ≡ self.old) }
     {
         let first = self.cursor.shrink(N)?;
         Some(self.slots[first])
