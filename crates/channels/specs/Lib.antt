@@ -1,3 +1,4 @@
 pub mod Checks
+pub mod Lines
 pub mod Standing
 pub mod Status

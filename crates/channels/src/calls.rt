@@ -1,6 +1,7 @@
-ghost use Rattle.std.specs.Prelude.{◌≡◌, ◌<◌, ◌≤◌, true, false, length};
+ghost use Rattle.std.specs.Prelude.{◌≡◌, ◌<◌, ◌≤◌, true, false, length, OnErr};
 ghost use Rattle.machine.specs.Calls.{answered, unless_refused, put_refused, put_state, look_answer, stop_refused, stop_state, release_refused, release_state, fill_refused, fill_state, reserve_answer, reserve_state, start_refused, start_state, start_checks, start_program, join_line, status_answer};
 ghost use Rattle.machine.specs.Means.{mean_of, record_of};
+ghost use Rattle.channels.specs.Lines.{SameLines};
 ghost use Rattle.channels.specs.Standing.{Standing};
 
 use crate::checks::{reserved, resting, running};
@@ -30,6 +31,8 @@ pub fn look(state: &State, channel: u32, place: u32) -> Result<u32, ChannelFault
 pub fn put(state: &mut State, channel: u32, place: u32, word: u32) -> Result<(), ChannelFault>
     ensures answer { result ≡ answered (put_refused (mean_of state.old) channel place) tt }
     ensures after { mean_of state.new ≡ unless_refused (put_refused (mean_of state.old) channel place) (mean_of state.old) (put_state (mean_of state.old) channel place word) }
+    ensures kept { OnErr result (state.new ≡ state.old) }
+    ensures lines { SameLines state.old state.new }
 {
     let channel = Channel::try_from(channel)?;
     let place = Place::try_from(place)?;
@@ -42,6 +45,8 @@ pub fn put(state: &mut State, channel: u32, place: u32, word: u32) -> Result<(),
 pub fn stop(state: &mut State, channel: u32) -> Result<(), ChannelFault>
     ensures answer { result ≡ answered (stop_refused (mean_of state.old) channel) tt }
     ensures after { mean_of state.new ≡ unless_refused (stop_refused (mean_of state.old) channel) (mean_of state.old) (stop_state (mean_of state.old) channel) }
+    ensures kept { OnErr result (state.new ≡ state.old) }
+    ensures lines { SameLines state.old state.new }
 {
     let channel = Channel::try_from(channel)?;
     running(&state.records[channel.0 as usize])?;
@@ -53,6 +58,8 @@ pub fn stop(state: &mut State, channel: u32) -> Result<(), ChannelFault>
 pub fn release(state: &mut State, channel: u32) -> Result<(), ChannelFault>
     ensures answer { result ≡ answered (release_refused (mean_of state.old) channel) tt }
     ensures after { mean_of state.new ≡ unless_refused (release_refused (mean_of state.old) channel) (mean_of state.old) (release_state (mean_of state.old) channel) }
+    ensures kept { OnErr result (state.new ≡ state.old) }
+    ensures lines { SameLines state.old state.new }
 {
     let channel = Channel::try_from(channel)?;
     resting(&state.records[channel.0 as usize])?;
@@ -65,6 +72,8 @@ pub fn release(state: &mut State, channel: u32) -> Result<(), ChannelFault>
 pub fn fill(state: &mut State, channel: u32, bytes: &[u8]) -> Result<(), ChannelFault>
     ensures answer { result ≡ answered (fill_refused (mean_of state.old) channel bytes.now) tt }
     ensures after { mean_of state.new ≡ unless_refused (fill_refused (mean_of state.old) channel bytes.now) (mean_of state.old) (fill_state (mean_of state.old) channel bytes.now) }
+    ensures kept { OnErr result (state.new ≡ state.old) }
+    ensures lines { SameLines state.old state.new }
 {
     let channel = Channel::try_from(channel)?;
     let sheet = Sheet::read(bytes)?;
@@ -77,6 +86,8 @@ pub fn fill(state: &mut State, channel: u32, bytes: &[u8]) -> Result<(), Channel
 pub fn reserve(state: &mut State) -> Result<Channel, ChannelFault>
     ensures answer { result ≡ reserve_answer (mean_of state.old) }
     ensures after { mean_of state.new ≡ reserve_state (mean_of state.old) }
+    ensures kept { OnErr result (state.new ≡ state.old) }
+    ensures lines { SameLines state.old state.new }
 {
     let channel = lowest_free(&state.records).ok_or(ChannelFault::NoneFree)?;
     state.records[channel.0 as usize] = empty_record(true);
@@ -137,6 +148,7 @@ pub fn start(state: &mut State, channel: u32, words: Words) -> Result<(), Channe
     requires { Standing (mean_of state.old) }
     ensures answer { result ≡ answered (start_refused (mean_of state.old) channel words) tt }
     ensures after { mean_of state.new ≡ unless_refused (start_refused (mean_of state.old) channel words) (mean_of state.old) (start_state (mean_of state.old) channel words) }
+    ensures kept { OnErr result (state.new ≡ state.old) }
 {
     let channel = Channel::try_from(channel)?;
     let program = Stored::from(Program::read(words)?);

@@ -6,3 +6,5 @@ mod checks;
 pub mod making;
 mod records;
 mod status;
+#[cfg(test)]
+mod tests;
