@@ -1,7 +1,7 @@
-ghost use Rattle.std.specs.Prelude.{◌≡◌, ◌<◌, ◌≤◌, true, false, length, OnErr};
+ghost use Rattle.std.specs.Prelude.{◌≡◌, ◌<◌, ◌≤◌, true, false, length, OnErr, OnOk};
 ghost use Rattle.machine.specs.Calls.{answered, unless_refused, put_refused, put_state, look_answer, stop_refused, stop_state, release_refused, release_state, fill_refused, fill_state, reserve_answer, reserve_state, start_refused, start_state, start_checks, start_program, join_line, status_answer};
 ghost use Rattle.machine.specs.Means.{mean_of, record_of};
-ghost use Rattle.channels.specs.Lines.{SameLines};
+ghost use Rattle.channels.specs.Lines.{JoinsOne, SameLines};
 ghost use Rattle.channels.specs.Standing.{Standing};
 
 use crate::checks::{reserved, resting, running};
@@ -109,7 +109,8 @@ pub fn status(state: &State, channel: u32) -> Result<u32, ChannelFault>
 fn join_line(state: &mut State, single: bool, channel: Channel)
     requires singles { length (mean_of state.old).singles < 16 }
     requires blocks { length (mean_of state.old).blocks < 16 }
-    ensures { mean_of state.new ≡ join_line single channel.0 (mean_of state.old) }
+    ensures joins { mean_of state.new ≡ join_line single channel.0 (mean_of state.old) }
+    ensures lines { JoinsOne single state.old state.new }
 {
     let _ = if single {
         state.singles.push(channel)
@@ -136,7 +137,8 @@ fn begin(state: &mut State, channel: Channel, program: Stored)
     requires standing { Standing (mean_of state.old) }
     requires low { channel.0 < 16 }
     requires rests { (record_of (mean_of state.old) channel.0).flags.running ≡ false }
-    ensures { mean_of state.new ≡ start_program (mean_of state.old) channel.0 program }
+    ensures starts { mean_of state.new ≡ start_program (mean_of state.old) channel.0 program }
+    ensures lines { JoinsOne program.single state.old state.new }
 {
     let record = &mut state.records[channel.0 as usize];
     *record = started_record(program, record.window);
@@ -149,6 +151,7 @@ pub fn start(state: &mut State, channel: u32, words: Words) -> Result<(), Channe
     ensures answer { result ≡ answered (start_refused (mean_of state.old) channel words) tt }
     ensures after { mean_of state.new ≡ unless_refused (start_refused (mean_of state.old) channel words) (mean_of state.old) (start_state (mean_of state.old) channel words) }
     ensures kept { OnErr result (state.new ≡ state.old) }
+    ensures lines { OnOk result (JoinsOne (record_of (mean_of state.new) channel).program.single state.old state.new) }
 {
     let channel = Channel::try_from(channel)?;
     let program = Stored::from(Program::read(words)?);

@@ -26,5 +26,5 @@ returns-clause-after c =
     let said = c.from-program.ensures in
     let checks = ap (λ (k : ℕ). start_checks m k (stored p)) (sym known.1) ∙ ap (start_checks m ch.0) (sym said) in
     let clear = checks ∙ answered_ok (start_checks m ch.0 c.from-program.result) c.in_ok-startable.ensures in
-    c.begin.ensures ∙ ap (start_program m ch.0) said ∙ ap (λ (k : ℕ). start_program m k (stored p)) known.1
+    c.begin.ensures.starts ∙ ap (start_program m ch.0) said ∙ ap (λ (k : ℕ). start_program m k (stored p)) known.1
     ∙ accepted_state m n c.args.words p known.0 c.in_ok-read.ensures.value clear
