@@ -1,6 +1,5 @@
 -- How the list that a line holds changes with its cursor and its slots. Two lists are shown equal place by place.
-use Rattle.std.proofs.Common.{◌≡◌, ℕ, zero, suc, ◌-◌, ◌<◌, ◌≤◌, List, [], ◌∷◌, ◌++◌, length, get_or, set, sym, ◌∙◌, arith}
-use Rattle.std.specs.Array.{AllZipBelow}
+use Rattle.std.proofs.Common.{◌≡◌, ℕ, zero, suc, ◌-◌, ◌<◌, ◌≤◌, List, [], ◌∷◌, ◌++◌, length, get_or, set, arith}
 use Rattle.std.proofs.lemmas.List.{places, same_lists, length-append, length-drop, length-set, length-take, get_or_default, get_or-set_same, get_or-set_other}
 use Rattle.std.proofs.lemmas.Bool.{cases_eq}
 use Rattle.std.proofs.lemmas.Bool.Decides.{nat_tests}
@@ -77,8 +76,3 @@ module _ {T : Type 0} (c : Cursor) (slots : List T) (size : ℕ) (sound : SoundL
   held_shorter d h =
       let after = shorter_sound h in
       same_lists _ _ (omega arith) (λ k e below. shorter_at d k e (omega arith))
-
--- where a clone of an element is that element, the clones of a list are that list
-pub same_clones : {T : Type 0} (is_clone : T → T → Type 0) (xs ys : List T) (size : ℕ) → AllZipBelow is_clone xs ys size → length xs ≡ size
-    → ((x y : T) → is_clone x y → y ≡ x) → ys ≡ xs
-same_clones is_clone xs ys size zip long same = same_lists ys xs (zip.long ∙ sym long) (λ k d below. same _ _ (zip.at k d d (omega (arith, zip.long))))

@@ -20,6 +20,7 @@ impl<T: Copy, const N: usize> Clone for Queue<T, N> {
 
     ghost is_clone = { Cloned T.is_clone };
 
+    // As of an array: it fits in memory, and no slot's clone fails.
     ghost is_infallible = { λ queue. IntoIterFitsInMemory T.row N.row × ((i : ℕ) (d : T) → i < N → T.is_infallible (slice_index_or queue.slots i d)) };
 
     fn clone(&self) -> Result<Queue<T, N>, AllocError> {
@@ -67,7 +68,7 @@ impl<T: Copy, const N: usize> Queue<T, N> {
         self.len() == N
     }
 
-    // The same queue. Unlike `clone` it asks no element, so it can't fail.
+    // The same queue. Unlike `clone` it clones no element, so it can't fail.
     pub fn copied(&self) -> Queue<T, N>
         ensures { result ≡ self.now }
     {

@@ -1,6 +1,7 @@
 use Rattle.std.proofs.Common.{rules}
-use Rattle.queue.proofs.Steps.{sound_within, same_clones}
-use Rattle.queue.proofs.Same.{same_queue}
+use Rattle.std.proofs.lemmas.List.Elements.{same_from_all_zip}
+use Rattle.queue.proofs.Steps.{sound_within}
+use Rattle.queue.proofs.SameQueues.{same_queue}
 use Rattle.queue.proofs.line.QueueClone.clone.Goals as goal
 
 pub invariant_of-copy : goal.invariant_of-copy
@@ -10,12 +11,11 @@ invariant_of-copy g c =
 
 pub returns : goal.returns
 returns g c =
-    let queue = c.args.self.now in
     let clones = c.in_ok-copy.ensures.cases in
     record {
       cases = record {
         cursor = search rules;
         slots = clones;
-        same = λ same. same_queue _ _ (same_clones _ _ _ _ clones queue.sound.slots_are same) (search rules);
+        same = λ same. same_queue _ _ (same_from_all_zip _ _ _ clones.whole same) (search rules);
       };
     }
